@@ -1,7 +1,7 @@
 // Refusals by number: what every fault of every layer can tell of itself.
 ghost use mathlib.Core.Path.{_≡_};
 ghost use Prim.Native.Nat.{_≤_};
-ghost use lib.ListN.{take};
+ghost use lib.ListN.{length, take};
 ghost use Rattle.refusals.specs.Answer.{Told};
 ghost use Rattle.refusals.specs.ToldBy.{toldBy};
 use std::fmt;
@@ -25,16 +25,25 @@ impl Refused {
         ensures { λ r. ⌜ toldBy r ≡ (number, take 4 (now (values .entry))) ⌝ }
     {
         let count = values.len().min(4);
-        let mut beside = [0; 4];
-        for i in 0..count {
-            beside[i] = values[i];
-        }
+        let beside = first_of(values, count);
         Refused {
             number,
             beside,
             count,
         }
     }
+}
+
+// The first `count` values, and zeros behind them.
+fn first_of(values: &[usize], count: usize) -> [usize; 4]
+    requires { ⌜ count ≤ 4 ⌝ ∗ ⌜ count ≤ length (now values) ⌝ }
+    ensures { λ r. ⌜ take count r ≡ take count (now (values .entry)) ⌝ }
+{
+    let mut front = [0; 4];
+    for i in 0..count {
+        front[i] = values[i];
+    }
+    front
 }
 
 // The number, then each value behind a space.
