@@ -17,3 +17,8 @@ Told = ℕ × List ℕ
 abbrev pub answer : {A F : Type 0} → (F → Told) → Result A F → Answer A
 answer told (Ok x) = gives x
 answer told (Err f) = refuses (told f .0) (told f .1)
+
+-- the same, with the result taken for what it means
+abbrev pub answerAs : {A B F : Type 0} → (A → B) → (F → Told) → Result A F → Answer B
+answerAs means told (Ok x) = gives (means x)
+answerAs means told (Err f) = refuses (told f .0) (told f .1)
