@@ -13,3 +13,4 @@ pub mod Mantissas
 pub mod Tables
 pub mod Heads
 pub mod Amounts
+pub mod Dispatch

@@ -38,7 +38,10 @@ pub impl<V: ColumnCode> ColumnCode for Descending<V> as DescendingCode {
     fn read(source: Source, texts: &mut [u8]) -> Result<(Descending<V>, usize), Unread> {
         match V::read(source.turned(), texts) {
             Ok((value, n)) => Ok((Descending(value), n)),
-            Err(why) => Err(why),
+            Err(why) => match why {
+                Unread::NoCode(at) => Err(Unread::NoCode(at)),
+                Unread::NoRoom => Err(Unread::NoRoom),
+            },
         }
     }
 }

@@ -77,9 +77,12 @@ pub impl ColumnCode for Text as TextCode {
     }
 
     fn read(source: Source, texts: &mut [u8]) -> Result<(Text, usize), Unread> {
-        let Some((0x24, rest)) = source.split() else {
+        let Some((first, rest)) = source.split() else {
             return Err(Unread::NoCode(0));
         };
+        if first != 0x24 {
+            return Err(Unread::NoCode(0));
+        }
         let Some(len) = rest.zero() else {
             return Err(Unread::NoCode(rest.len() + 1));
         };
