@@ -9,6 +9,7 @@ ghost use Rattle.codes.specs.Codes.{textCode};
 ghost use Rattle.codes.specs.Laws.{Put};
 ghost use Rattle.codes.specs.Means.{textOf};
 use crate::code::ColumnCode;
+use crate::code::put_front;
 use crate::source::Source;
 use crate::unread::Unread;
 use crate::value::Text;
@@ -47,6 +48,15 @@ fn put_text(bytes: &[u8], out: &mut [u8]) -> Option<usize>
     out[1..n + 1].copy_from_slice(bytes);
     out[n + 1] = 0x00;
     Some(n + 2)
+}
+
+impl Text {
+    // Writes the text's bytes to the front of the output and answers their number, or None where there is no room.
+    pub fn put_bytes(self, texts: &[u8], out: &mut [u8]) -> Option<usize>
+        ensures { λ r. ⌜ Put (textOf self (now (texts .entry))) (now (out .entry)) (now (out .exit)) r ⌝ }
+    {
+        put_front(bytes_of(self, texts), out)
+    }
 }
 
 pub impl ColumnCode for Text as TextCode {
