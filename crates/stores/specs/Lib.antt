@@ -1,0 +1,5 @@
+pub mod Pages
+pub mod Faults
+pub mod Calls
+pub mod Areas
+pub mod ImageOf
