@@ -3,3 +3,5 @@ pub mod Faults
 pub mod Calls
 pub mod Areas
 pub mod ImageOf
+pub mod Sums
+pub mod Opened

@@ -3,7 +3,9 @@ mod fault;
 mod front;
 mod image;
 mod image_area;
+mod seal;
 mod store;
+mod sums;
 
 pub use fault::StoreFault;
 pub use fault::StoreFaultDebug;
@@ -11,4 +13,6 @@ pub use fault::StoreFaultPartialEq;
 pub use fault::StoreRefusal;
 pub use image::ImageStore;
 pub use image_area::Image;
+pub use seal::Seal;
+pub use seal::SealStore;
 pub use store::PageStore;
