@@ -5,3 +5,4 @@ pub mod Areas
 pub mod ImageOf
 pub mod Sums
 pub mod Opened
+pub mod Keeping
