@@ -6,3 +6,4 @@ pub mod ImageOf
 pub mod Sums
 pub mod Opened
 pub mod Keeping
+pub mod Detects

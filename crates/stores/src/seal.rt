@@ -5,6 +5,7 @@ ghost use Rattle.std.specs.declared.result.Result.the-variants.{Ok};
 ghost use Rattle.refusals.specs.Answer.{answer};
 ghost use Rattle.stores.specs.Pages.{sound, damaged};
 ghost use Rattle.stores.specs.Faults.{storeTold};
+ghost use Rattle.stores.specs.Detects.{Detects};
 ghost use Rattle.stores.specs.Opened.{openPages, Opens};
 use crate::fault::StoreFault;
 use crate::front::put_front;
@@ -19,9 +20,10 @@ pub struct Seal<S> {
 }
 
 impl<S> Seal<S> {
-    // Seals a store.
+    // Seals a store. Its pages are then damaged where one byte, the order of two or the page's number is not as written.
     pub fn new(lower: S) -> Seal<S>
-        ensures { λ r. ⌜ r .lower ≡ lower ⌝ }
+        ensures lower { λ r. ⌜ r .lower ≡ lower ⌝ }
+        ensures detects { λ _. ⌜ Detects ⌝ }
     {
         Seal { lower }
     }

@@ -1,12 +1,7 @@
 use native.Mathlib.Omega.{arith}
 use borrow.Author.Needs.{needs}
-use mathlib.Core.Path.{_≡_, refl, sym, ap, _∙_}
-use Rattle.std.specs.declared.result.Result.{Result}
-use Rattle.std.specs.declared.result.Result.the-variants.{Ok, Err}
+use mathlib.Core.Path.{refl, sym}
 use Rattle.std.proofs.shelf.Results.{err-from-errBy}
-use Rattle.refusals.specs.Answer.{answer}
-use Rattle.stores.specs.declared.fault.StoreFault.{StoreFault}
-use Rattle.stores.specs.Faults.{storeTold}
 use Rattle.stores.proofs.Steps.{read-ok}
 use Rattle.stores.proofs.Opens.{opens-break, opens-torn, opens-whole}
 use Rattle.stores.proofs.seal.open_page.Needs as need
@@ -16,7 +11,7 @@ returns-in-Break-read g c =
     let low = g .S·PageStore .len (c .args .lower .now) in
     let ps = g .S·PageStore .pages (c .args .lower .now) in
     let short = g .S·PageStore·met .short (c .args .lower .now) in
-    let was = ap (λ (r : Result (Unit {0}) StoreFault). answer storeTold r) (sym (c .in-Break-read .was tt)) ∙ c .read .ensures .answer in
+    let was = c .in-Break-read .ensures tt .answer in
     let w = opens-break low ps (c .args .p) (c .pre .0) (c .args .page .now) (c .read .last .buf) _ (omega arith) was (c .read .ensures .buffer) in
     let r = err-from-errBy (c .from-residual .result) (c .from-residual .ensures .1) in
     rw (r .1, r .2) w
@@ -25,7 +20,7 @@ pub returns-then-not-agrees : need.returns-then-not-agrees
 returns-then-not-agrees g c =
     let low = g .S·PageStore .len (c .args .lower .now) in
     let ps = g .S·PageStore .pages (c .args .lower .now) in
-    let was = ap (λ (r : Result (Unit {0}) StoreFault). answer storeTold r) (sym (c .in-Continue-read .was tt)) ∙ c .read .ensures .answer in
+    let was = c .in-Continue-read .ensures tt .answer in
     let k = read-ok low ps (c .args .p) (c .args .page .now) (c .read .last .buf) _ (g .S·PageStore·met .sized (c .args .lower .now) (c .args .p)) was (c .read .ensures .buffer) in
     (opens-torn low ps (c .args .p) (c .pre .0) (c .args .page .now) (c .read .last .buf) _ (c .page-len-whole .result) k (c .page-len-whole .ensures) (search needs) (sym (c .if-not-agrees .ensures tt)), refl)
 
@@ -33,6 +28,6 @@ pub returns : need.returns
 returns g c =
     let low = g .S·PageStore .len (c .args .lower .now) in
     let ps = g .S·PageStore .pages (c .args .lower .now) in
-    let was = ap (λ (r : Result (Unit {0}) StoreFault). answer storeTold r) (sym (c .in-Continue-read .was tt)) ∙ c .read .ensures .answer in
+    let was = c .in-Continue-read .ensures tt .answer in
     let k = read-ok low ps (c .args .p) (c .args .page .now) (c .read .last .buf) _ (g .S·PageStore·met .sized (c .args .lower .now) (c .args .p)) was (c .read .ensures .buffer) in
     opens-whole low ps (c .args .p) (c .pre .0) (c .args .page .now) (c .read .last .buf) _ (c .page-len-whole .result) k (c .page-len-whole .ensures) (search needs) (sym (c .if-not-agrees .ensures tt))
