@@ -5,11 +5,11 @@ use mathlib.Core.Bool.{true, false}
 use mathlib.Core.List.{List}
 use Prim.Native.Nat.{ℕ, _≤_, _<_, _+_, _*_, _-_, _/_, _%_}
 use native.Mathlib.Omega.{arith}
-use native.Mathlib.Nat.{add-mul, mul-mod-right}
+use native.Mathlib.Nat.{add-mul, mul-mod-right, add-mul-mod-self-right}
 use lib.ListN.{length, getD, set, take}
 use lib.Seq.{take-set-lt}
-use Rattle.std.proofs.shelf.Tests.{cases-bool, cases-lt, cases-eq, cases-order, eqb-true, and-parts}
-use Rattle.std.proofs.shelf.Bits.{div-add-mod'}
+use Rattle.std.proofs.shelf.Tests.{cases-bool, cases-lt, cases-eq, cases-order, eqb-true, eq-eqb, and-parts, and-from}
+use Rattle.std.proofs.shelf.Bits.{div-add-mod', mod-mul-add}
 use Rattle.std.proofs.shelf.Lists.{length-set, length-take-le, getD-set-same, getD-set-other, getD-take, take-set-le}
 use Rattle.stores.specs.Pages.{Page, sound, damaged}
 use Rattle.stores.specs.Sums.{total, weighed, checkA, checkB, pairOf, agreesAt}
@@ -28,6 +28,10 @@ unfolding checkA checkB
 agrees-from n p page t =
     let parts = and-parts _ _ t in
     record { plain = eqb-true _ _ (parts .0); weighs = eqb-true _ _ (parts .1) }
+
+agrees-to : (n p : ℕ) (page : List ℕ) → Agrees n p page → agreesAt n p page ≡ true
+unfolding checkA checkB
+agrees-to n p page a = and-from _ _ (eq-eqb _ _ (a .plain)) (eq-eqb _ _ (a .weighs))
 
 -- a page whose sums cannot both agree is damaged
 torn-from : (n p : ℕ) (page : List ℕ) → length page ≡ n + 4 → (Agrees n p page → ⊥) → opened p (sound page) ≡ damaged
@@ -62,6 +66,28 @@ border-weighed n t u e f =
     let dt = div-add-mod' t 65535 in let du = div-add-mod' u 65535 in
     let g : n ≡ 257 * (i - j) = omega arith in
     rw g (mul-mod-right 257 (i - j))
+
+-- there they do
+border-plain-back : (x y lo t u : ℕ) → y * 256 + lo ≡ u % 65535 → t + x ≡ u + y → lo < 255 →
+    ((x ≡ 0) × (y ≡ 255)) ⊎ ((x ≡ 255) × (y ≡ 0)) → x * 256 + lo ≡ t % 65535
+border-plain-back x y lo t u a e l v =
+    let q = u / 65535 in let d = div-add-mod' u 65535 in
+    elim v [
+      | inl z ↦ let zx = z .0 in let zy = z .1 in let g : t ≡ (q + 1) * 65535 + lo = omega arith in
+          omega (arith, ap (λ j. j % 65535) g ∙ mod-mul-add (q + 1) 65535 lo (omega arith))
+      | inr z ↦ let zx = z .0 in let zy = z .1 in
+          let lows : u % 65535 ≡ lo = omega arith in
+          let sum : u ≡ t + 255 = omega arith in
+          let some : 1 ≤ q = omega arith in let r : q ≡ q - 1 + 1 = omega arith in
+          let g : t ≡ (q - 1) * 65535 + (65280 + lo) = omega arith in
+          omega (arith, ap (λ j. j % 65535) g ∙ mod-mul-add (q - 1) 65535 (65280 + lo) (omega arith))
+    ]
+
+border-weighed-back : (n t u : ℕ) → n % 257 ≡ 0 → t ≡ u + n * 255 → t % 65535 ≡ u % 65535
+border-weighed-back n t u e f =
+    let d = div-add-mod' n 257 in
+    let g : t ≡ u + n / 257 * 65535 = omega arith in
+    rw g (add-mul-mod-self-right u (n / 257) 65535)
 
 size-of : (p : ℕ) (page : List ℕ) → Whole p page → length page ≡ length page - 4 + 4
 size-of p page w = let r = w .room in omega arith
@@ -175,36 +201,104 @@ module _ (n p k : ℕ) (page : List ℕ) (l : length page ≡ n + 4) (a : Agrees
         ]
       ]
 
-  -- the last data byte with the first of the sums: only 0 and 255 can leave the first sum right
+  -- the last data byte with the first of the sums
+  record Border : Type 0 where
+    pub front : take n (exchanged page k) ≡ set (take n page) k (getD page (k + 1) 0)
+    pub plain : total (set (take n page) k (getD page (k + 1) 0)) + getD page k 0 ≡ total (take n page) + getD page (k + 1) 0
+    pub weighs : weighed 1 (set (take n page) k (getD page (k + 1) 0)) + (1 + k) * getD page k 0 ≡ weighed 1 (take n page) + (1 + k) * getD page (k + 1) 0
+    pub high-byte : getD (exchanged page k) n 0 ≡ getD page k 0
+    pub was-high : getD page n 0 ≡ getD page (k + 1) 0
+    pub was-low : getD page (n + 1) 0 ≡ getD page (k + 2) 0
+    pub behind : (i : ℕ) → n < i → getD (exchanged page k) i 0 ≡ getD page i 0
+
+  border-at : k + 1 ≡ n → Border
+  border-at q =
+      let x = getD page k 0 in let y = getD page (k + 1) 0 in
+      let gx : getD (take n page) k 0 ≡ x = getD-take n page k 0 (omega arith) in
+      let next : n + 1 ≡ k + 2 = omega arith in
+      record {
+        front = take-set-le n (set page k y) (k + 1) x (omega arith) ∙ take-set-lt n page k y (omega arith);
+        plain = rw gx at (total-set (take n page) k y (omega (arith, size)));
+        weighs = rw gx at (weighed-set 1 (take n page) k y (omega (arith, size)));
+        high-byte = high n (sym q);
+        was-high = rw (sym q) refl;
+        was-low = rw next refl;
+        behind = λ i m. apart i (λ u. omega arith) (λ u. omega arith);
+      }
+
+  -- only 0 and 255 can leave both sums right
   exchange-border : k + 1 ≡ n → Agrees n p (exchanged page k) → Missed page k
   exchange-border q b =
-      let x = getD page k 0 in let y = getD page (k + 1) 0 in
-      let front = take n page in
-      let e : take n (exchanged page k) ≡ set front k y =
-      take-set-le n (set page k y) (k + 1) x (omega arith) ∙ take-set-lt n page k y (omega arith) in
-      let t = total-set front k y (omega (arith, size)) in
-      let w = weighed-set 1 front k y (omega (arith, size)) in
-      let gx : getD front k 0 ≡ x = getD-take n page k 0 (omega arith) in
-      let hi : getD (exchanged page k) n 0 ≡ x = high n (sym q) in
-      let was : getD page n 0 ≡ y = rw (sym q) refl in
-      let o1 = apart (n + 1) (λ u. omega arith) (λ u. omega arith) in
-      let o2 = apart (n + 2) (λ u. omega arith) (λ u. omega arith) in
-      let o3 = apart (n + 3) (λ u. omega arith) (λ u. omega arith) in
-      let plain = rw (hi, o1, e) at (b .plain) in let weighs = rw (o2, o3, e) at (b .weighs) in
-      let plain' = rw was at (a .plain) in let weighs' = a .weighs in
-      let t' = rw gx at t in let w' = rw gx at w in
+      let x = getD page k 0 in let y = getD page (k + 1) 0 in let lo = getD page (n + 1) 0 in
+      let f = border-at q in let t = f .plain in let w = f .weighs in let lows = f .was-low in
+      let o1 = f .behind (n + 1) (omega arith) in
+      let o2 = f .behind (n + 2) (omega arith) in
+      let o3 = f .behind (n + 3) (omega arith) in
+      let plain = rw (f .high-byte, o1, f .front) at (b .plain) in let weighs = rw (o2, o3, f .front) at (b .weighs) in
+      let plain' = rw (f .was-high) at (a .plain) in let weighs' = a .weighs in
       elim (cases-lt x y) [
-        | inl less ↦ let z = border-plain x y (getD page (n + 1) 0) _ _ plain plain' (omega arith) less wy in
+        | inl less ↦ let z = border-plain x y lo _ _ plain plain' (omega arith) less wy in
             let vx = ap (λ j. (1 + k) * j) (z .0) in let vy = ap (λ j. (1 + k) * j) (z .1) in
-            record { last = omega arith; by257 = border-weighed (k + 1) _ _ (sym weighs ∙ weighs') (omega arith); ends = inl z }
-        | inr more ↦ let z = border-plain y x (getD page (n + 1) 0) _ _ plain' plain (omega arith) (omega arith) wx in
+            record {
+              border = omega arith;
+              by257 = border-weighed (k + 1) _ _ (sym weighs ∙ weighs') (omega arith);
+              values = inl z;
+              low = omega (arith, z .1);
+            }
+        | inr more ↦ let z = border-plain y x lo _ _ plain' plain (omega arith) (omega arith) wx in
             let vx = ap (λ j. (1 + k) * j) (z .1) in let vy = ap (λ j. (1 + k) * j) (z .0) in
-            record { last = omega arith; by257 = border-weighed (k + 1) _ _ (sym weighs' ∙ weighs) (omega arith); ends = inr (z .1, z .0) }
+            record {
+              border = omega arith;
+              by257 = border-weighed (k + 1) _ _ (sym weighs' ∙ weighs) (omega arith);
+              values = inr (z .1, z .0);
+              low = omega (arith, z .1);
+            }
       ]
+
+  -- and they do
+  exchange-missed : Missed page k → Agrees n p (exchanged page k)
+  exchange-missed m =
+      let x = getD page k 0 in let y = getD page (k + 1) 0 in let lo = getD page (n + 1) 0 in
+      let q : k + 1 ≡ n = omega (arith, m .border) in
+      let f = border-at q in let t = f .plain in let w = f .weighs in let lows = f .was-low in
+      let o1 = f .behind (n + 1) (omega arith) in
+      let o2 = f .behind (n + 2) (omega arith) in
+      let o3 = f .behind (n + 3) (omega arith) in
+      let one = rw (f .was-high) at (a .plain) in
+      let two : weighed 1 (set (take n page) k y) % 65535 ≡ weighed 1 (take n page) % 65535 =
+      elim (m .values) [
+        | inl z ↦ let vx = ap (λ j. (1 + k) * j) (z .0) in let vy = ap (λ j. (1 + k) * j) (z .1) in
+            border-weighed-back (k + 1) _ _ (m .by257) (omega arith)
+        | inr z ↦ let vx = ap (λ j. (1 + k) * j) (z .0) in let vy = ap (λ j. (1 + k) * j) (z .1) in
+            sym (border-weighed-back (k + 1) _ _ (m .by257) (omega arith))
+      ] in
+      record {
+        plain = rw (f .high-byte, o1, f .front) (border-plain-back x y lo _ _ one (omega arith) (omega (arith, m .low)) (m .values));
+        weighs = rw (o2, o3, f .front) (a .weighs ∙ sym two);
+      }
+
+  exchange-size : length (exchanged page k) ≡ n + 4
+  exchange-size = length-set (set page k (getD page (k + 1) 0)) (k + 1) (getD page k 0) ∙ length-set page k (getD page (k + 1) 0) ∙ l
+
+  exchange-whole : ((i : ℕ) → i < length page → getD page i 0 < 256) → Missed page k → Whole p (exchanged page k)
+  exchange-whole bytes m =
+      let z = exchange-size in
+      let e : length (exchanged page k) - 4 ≡ n = omega arith in
+      record {
+        bytes = λ i r. elim (cases-eq i k) [
+          | inl same ↦ rw (low i same) wy
+          | inr u ↦ elim (cases-eq i (k + 1)) [
+            | inl next ↦ rw (high i next) wx
+            | inr v ↦ rw (apart i u v) (bytes i (omega arith))
+          ]
+        ];
+        room = omega arith;
+        opens = opened-sound p _ (exchanged page k) refl (rw e (agrees-to n p (exchanged page k) (exchange-missed m)));
+      }
 
   exchange-torn : (Missed page k → ⊥) → opened p (sound (exchanged page k)) ≡ damaged
   exchange-torn m =
-      torn-from n p (exchanged page k) (length-set (set page k (getD page (k + 1) 0)) (k + 1) (getD page k 0) ∙ length-set page k (getD page (k + 1) 0) ∙ l)
+      torn-from n p (exchanged page k) exchange-size
       (elim (cases-order (k + 1) n) [
         | inl same ↦ λ b. m (exchange-border same b)
         | inr (inl less) ↦ exchange-data less
@@ -224,5 +318,9 @@ detects = record {
   exchange = λ p k page w h d m.
       exchange-torn (length page - 4) p k page (size-of p page w) (whole-agrees (length page - 4) p page (size-of p page w) w) h
       (w .bytes k (omega arith)) (w .bytes (k + 1) h) d m;
+  missed = λ p k page w m.
+      exchange-whole (length page - 4) p k page (size-of p page w) (whole-agrees (length page - 4) p page (size-of p page w) w) (omega (arith, m .border))
+      (w .bytes k (omega (arith, m .border))) (w .bytes (k + 1) (omega (arith, m .border)))
+      (λ e. elim (m .values) [ inl z ↦ omega (arith, z .0, z .1) | inr z ↦ omega (arith, z .0, z .1) ]) (w .bytes) m;
   move = λ p q page w hp hq d. move-torn (length page - 4) p q page (size-of p page w) (whole-agrees (length page - 4) p page (size-of p page w) w) hp hq d;
 }

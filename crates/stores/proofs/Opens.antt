@@ -55,23 +55,24 @@ module _ (low : ℕ) (pages : List Page) (p : ℕ) (h : p < length (openPages lo
         | torn e q m x ↦ (at-page ∙ ap (opened p) x ∙ opened-damaged p, e)
       ]
 
-  module _ (buf out page : List ℕ) (n : ℕ) (k : Read low pages p buf out) (m : n ≡ low) (f : page ≡ take n out) where
-    whole-page : page ≡ k .bytes
-    whole-page = f ∙ ap (λ (j : ℕ). take j out) m ∙ k .front
+  -- the store below gave its page: the first n bytes of the buffer, as they are read for the check
+  module _ (buf out : List ℕ) (n : ℕ) (k : Read low pages p buf out) (m : n ≡ low) where
+    whole-page : take (n - 0) out ≡ k .bytes
+    whole-page = let e : n - 0 ≡ low = omega arith in rw e (k .front)
 
     data-count : length (k .bytes) - 4 ≡ n - 4
     data-count = ap (λ j. j - 4) (k .sized ∙ sym m)
 
     -- the seal does not agree
-    pub opens-torn : agreesAt (n - 4) p page ≡ false → getD (openPages low pages) p damaged ≡ damaged
-    opens-torn t = at-page ∙ ap (opened p) (k .page) ∙ opened-torn p (n - 4) (k .bytes) data-count (rw whole-page at t)
+    pub opens-torn : false ≡ agreesAt (n - 4) p (take (n - 0) out) → getD (openPages low pages) p damaged ≡ damaged
+    opens-torn t = at-page ∙ ap (opened p) (k .page) ∙ opened-torn p (n - 4) (k .bytes) data-count (sym (rw whole-page at t))
 
     -- the seal agrees
-    pub opens-whole : agreesAt (n - 4) p page ≡ true → getD (openPages low pages) p damaged ≡ sound (take (low - 4) out)
+    pub opens-whole : true ≡ agreesAt (n - 4) p (take (n - 0) out) → getD (openPages low pages) p damaged ≡ sound (take (low - 4) out)
     opens-whole t =
         let same : take (n - 4) (k .bytes) ≡ take (low - 4) out =
         rw m (ap (take (low - 4)) (sym (k .front)) ∙ take-take (low - 4) low out (omega arith)) in
-        at-page ∙ ap (opened p) (k .page) ∙ opened-sound p (n - 4) (k .bytes) data-count (rw whole-page at t) ∙ ap sound same
+        at-page ∙ ap (opened p) (k .page) ∙ opened-sound p (n - 4) (k .bytes) data-count (sym (rw whole-page at t)) ∙ ap sound same
 
   -- a page written below with its seal is the page of the sealed store
   pub put-sealed : (bytes part : List ℕ) (r : Result (Unit {0}) StoreFault) (low' : ℕ) (after : List Page) →
@@ -84,7 +85,7 @@ module _ (low : ℕ) (pages : List Page) (p : ℕ) (h : p < length (openPages lo
       let sure = write-sure low pages p part after r lp (omega arith) a w in
       let all : openPages low' after ≡ each opened after = grind (arith, tells) in (
         sure .0,
-        all ∙ ap (each opened) (sure .1) ∙ each-set opened pages p (sound part) lp
+        all ∙ ap (each opened) (sure .1 .put) ∙ each-set opened pages p (sound part) lp
             ∙ rw (e, opened-fresh p bytes) (ap (λ (x : List Page). set x p (sound bytes)) (sym (i .are))),
       )
 

@@ -9,7 +9,7 @@ use Rattle.std.specs.declared.result.Result.{Result}
 use Rattle.std.specs.declared.result.Result.the-variants.{Ok, Err}
 use Rattle.std.proofs.shelf.Ways.{tells}
 use Rattle.std.proofs.shelf.Tests.{cases-lt, cases-eq}
-use Rattle.std.proofs.shelf.Lists.{take-at}
+use Rattle.std.proofs.shelf.Lists.{take-at, length-set, getD-set-same, getD-set-other}
 use Rattle.refusals.specs.Answer.{Answer, gives, refuses, answer}
 use Rattle.stores.specs.declared.fault.StoreFault.{StoreFault}
 use Rattle.stores.specs.declared.fault.StoreFault.the-variants.{NoSuchPage, WrongLength, Damaged, PageLength}
@@ -66,6 +66,19 @@ pub record Written (len : ℕ) (pages : List Page) (p : ℕ) (bytes : List ℕ) 
   pub within : p < length pages
   pub sized : length bytes ≡ len
   pub put : after ≡ set pages p (sound bytes)
+
+-- the page that was written, the others, and their number
+pub written-here : (len : ℕ) (pages : List Page) (p : ℕ) (bytes : List ℕ) (after : List Page) → Written len pages p bytes after →
+    getD after p damaged ≡ sound bytes
+written-here len pages p bytes after w = rw (w .put) (getD-set-same pages p (sound bytes) damaged (w .within))
+
+pub written-other : (len : ℕ) (pages : List Page) (p : ℕ) (bytes : List ℕ) (after : List Page) → Written len pages p bytes after →
+    (k : ℕ) → (k ≡ p → ⊥) → getD after k damaged ≡ getD pages k damaged
+written-other len pages p bytes after w k d = rw (w .put) (getD-set-other pages p k (sound bytes) damaged d)
+
+pub written-count : (len : ℕ) (pages : List Page) (p : ℕ) (bytes : List ℕ) (after : List Page) → Written len pages p bytes after →
+    length after ≡ length pages
+written-count len pages p bytes after w = rw (w .put) (length-set pages p (sound bytes))
 
 -- why a write was refused
 pub data Unwritten (len : ℕ) (pages : List Page) (p m : ℕ) (e : StoreFault) : Type 0 where
@@ -129,5 +142,6 @@ module _ (len : ℕ) (pages : List Page) (p : ℕ) where
   -- a write of one page's bytes to a page that is there is accepted
   pub write-sure : (bytes : List ℕ) (after : List Page) (r : Result (Unit {0}) StoreFault) → p < length pages → length bytes ≡ len →
       answer storeTold r ≡ writeAnswer len pages p (length bytes) → after ≡ writePages len pages p bytes →
-      (r ≡ Ok tt) × (after ≡ set pages p (sound bytes))
-  write-sure bytes after r h l a w = (told-none r (grind (arith, tells)), grind (arith, tells))
+      (r ≡ Ok tt) × Written len pages p bytes after
+  write-sure bytes after r h l a w =
+      (told-none r (grind (arith, tells)), record { within = h; sized = l; put = grind (arith, tells) })

@@ -17,13 +17,15 @@ pub record Whole (p : ℕ) (page : List ℕ) : Type 0 where
 abbrev pub exchanged : List ℕ → ℕ → List ℕ
 exchanged page k = set (set page k (getD page (k + 1) 0)) (k + 1) (getD page k 0)
 
--- the one exchange that both sums may miss: of the last data byte with the first byte of the sums, 0 with 255, where
--- 257 divides the number of data bytes. The first sum then moves by 255 and its high byte by 255 × 256, which is the
--- same modulo 65,535 = 255 × 257, and the second sum moves by 255 times the number of data bytes.
+-- the one exchange that both sums miss: of the last data byte with the first byte of the sums, 0 with 255, where 257
+-- divides the number of data bytes. The first sum then moves by 255 and its high byte by 255 × 256 the other way, which
+-- is the same modulo 65,535 = 255 × 257; the second sum moves by 255 times the number of data bytes, which is nothing.
+-- (A first sum that would then be stored as 65,535 is no sum, so its low byte is not 255.)
 pub record Missed (page : List ℕ) (k : ℕ) : Type 0 where
-  pub last : k + 5 ≡ length page
+  pub border : k + 5 ≡ length page
   pub by257 : (k + 1) % 257 ≡ 0
-  pub ends : ((getD page k 0 ≡ 0) × (getD page (k + 1) 0 ≡ 255)) ⊎ ((getD page k 0 ≡ 255) × (getD page (k + 1) 0 ≡ 0))
+  pub values : ((getD page k 0 ≡ 0) × (getD page (k + 1) 0 ≡ 255)) ⊎ ((getD page k 0 ≡ 255) × (getD page (k + 1) 0 ≡ 0))
+  pub low : getD page (k + 2) 0 < 255
 
 -- a whole page is damaged once any one byte is changed, of the data or of the sums
 abbrev pub ChangeSeen : Type 0
@@ -35,12 +37,17 @@ abbrev pub ExchangeSeen : Type 0
 ExchangeSeen = (p k : ℕ) (page : List ℕ) → Whole p page → k + 1 < length page → (getD page k 0 ≡ getD page (k + 1) 0 → ⊥) →
     (Missed page k → ⊥) → opened p (sound (exchanged page k)) ≡ damaged
 
+-- and that one exchange leaves it whole
+abbrev pub ExchangeMissed : Type 0
+ExchangeMissed = (p k : ℕ) (page : List ℕ) → Whole p page → Missed page k → Whole p (exchanged page k)
+
 -- a whole page is damaged where it lies under another page number
 abbrev pub MoveSeen : Type 0
 MoveSeen = (p q : ℕ) (page : List ℕ) → Whole p page → p < 65535 → q < 65535 → (p ≡ q → ⊥) → opened q (sound page) ≡ damaged
 
--- all that a seal detects
+-- what a seal detects, and the one exchange that it does not
 pub record Detects : Type 0 where
   pub change : ChangeSeen
   pub exchange : ExchangeSeen
+  pub missed : ExchangeMissed
   pub move : MoveSeen

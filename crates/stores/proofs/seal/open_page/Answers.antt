@@ -1,6 +1,5 @@
 use native.Mathlib.Omega.{arith}
-use borrow.Author.Needs.{needs}
-use mathlib.Core.Path.{refl, sym}
+use mathlib.Core.Path.{refl}
 use Rattle.std.proofs.shelf.Results.{err-from-errBy}
 use Rattle.stores.proofs.Steps.{read-ok}
 use Rattle.stores.proofs.Opens.{opens-break, opens-torn, opens-whole}
@@ -22,7 +21,7 @@ returns-then-not-agrees g c =
     let ps = g .S·PageStore .pages (c .args .lower .now) in
     let was = c .in-Continue-read .ensures tt .answer in
     let k = read-ok low ps (c .args .p) (c .args .page .now) (c .read .last .buf) _ (g .S·PageStore·met .sized (c .args .lower .now) (c .args .p)) was (c .read .ensures .buffer) in
-    (opens-torn low ps (c .args .p) (c .pre .0) (c .args .page .now) (c .read .last .buf) _ (c .page-len-whole .result) k (c .page-len-whole .ensures) (search needs) (sym (c .if-not-agrees .ensures tt)), refl)
+    (opens-torn low ps (c .args .p) (c .pre .0) (c .args .page .now) (c .read .last .buf) (c .page-len-whole .result) k (c .page-len-whole .ensures) (c .if-not-agrees .ensures tt), refl)
 
 pub returns : need.returns
 returns g c =
@@ -30,4 +29,4 @@ returns g c =
     let ps = g .S·PageStore .pages (c .args .lower .now) in
     let was = c .in-Continue-read .ensures tt .answer in
     let k = read-ok low ps (c .args .p) (c .args .page .now) (c .read .last .buf) _ (g .S·PageStore·met .sized (c .args .lower .now) (c .args .p)) was (c .read .ensures .buffer) in
-    opens-whole low ps (c .args .p) (c .pre .0) (c .args .page .now) (c .read .last .buf) _ (c .page-len-whole .result) k (c .page-len-whole .ensures) (search needs) (sym (c .if-not-agrees .ensures tt))
+    opens-whole low ps (c .args .p) (c .pre .0) (c .args .page .now) (c .read .last .buf) (c .page-len-whole .result) k (c .page-len-whole .ensures) (c .if-not-agrees .ensures tt)
