@@ -43,6 +43,13 @@ sized len count area p b w e =
           absurd (let q : sound b ≡ damaged = sym e ∙ g in grind arith)
     ]
 
+-- the part of the area that page p is
+pub part-is : (len count p at n : ℕ) (area part : List ℕ) → p < count → count * len ≤ length area → at ≡ p * len → n ≡ len →
+    part ≡ take n (drop at area) → (getD (cut len count area) p damaged ≡ sound part) × (length part ≡ len)
+part-is len count p at n area part h w a m e =
+    let g : getD (cut len count area) p damaged ≡ sound part = getD-cut len count area p damaged h ∙ ap sound (sym (e ∙ rw (a, m) refl)) in
+    (g, sized len count area p part w g)
+
 -- a part that ends where the written one begins, or before
 before : (len at k : ℕ) (area bytes : List ℕ) → k + len ≤ at → at ≤ length area →
     take len (drop k (laid area at bytes)) ≡ take len (drop k area)

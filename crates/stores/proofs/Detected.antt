@@ -24,13 +24,11 @@ pub record Agrees (n p : ℕ) (page : List ℕ) : Type 0 where
   pub weighs : getD page (n + 2) 0 * 256 + getD page (n + 3) 0 ≡ weighed 1 (take n page) % 65535
 
 agrees-from : (n p : ℕ) (page : List ℕ) → agreesAt n p page ≡ true → Agrees n p page
-unfolding checkA checkB
 agrees-from n p page t =
     let parts = and-parts _ _ t in
     record { plain = eqb-true _ _ (parts .0); weighs = eqb-true _ _ (parts .1) }
 
 agrees-to : (n p : ℕ) (page : List ℕ) → Agrees n p page → agreesAt n p page ≡ true
-unfolding checkA checkB
 agrees-to n p page a = and-from _ _ (eq-eqb _ _ (a .plain)) (eq-eqb _ _ (a .weighs))
 
 -- a page whose sums cannot both agree is damaged

@@ -16,11 +16,9 @@ use Rattle.stores.specs.Sums.{checkA, checkB, sealOf, agreesAt, pairOf, quad}
 use Rattle.stores.specs.Opened.{opened}
 
 pub checkA-below : (p : ℕ) (bytes : List ℕ) → checkA p bytes < 65535
-unfolding checkA
 checkA-below p bytes = mod-below _ 65535 (omega arith)
 
 pub checkB-below : (bytes : List ℕ) → checkB bytes < 65535
-unfolding checkB
 checkB-below bytes = mod-below _ 65535 (omega arith)
 
 pub opened-sound : (p n : ℕ) (b : List ℕ) → length b - 4 ≡ n → agreesAt n p b ≡ true → opened p (sound b) ≡ sound (take n b)

@@ -16,11 +16,11 @@ weighed j [] = 0
 weighed j (x ∷ xs) = j * x + weighed (j + 1) xs
 
 -- the first sum, A, of page p
-unfoldable pub checkA : ℕ → List ℕ → ℕ
+abbrev pub checkA : ℕ → List ℕ → ℕ
 checkA p bytes = (p + total bytes) % 65535
 
 -- the second sum, B
-unfoldable pub checkB : List ℕ → ℕ
+abbrev pub checkB : List ℕ → ℕ
 checkB bytes = weighed 1 bytes % 65535
 
 -- a number of two bytes, high byte first

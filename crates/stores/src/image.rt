@@ -6,7 +6,7 @@ ghost use Rattle.std.specs.Of.Vec.{vec-items, vec-len};
 ghost use Rattle.refusals.specs.Answer.{answer};
 ghost use Rattle.stores.specs.Pages.{sound, damaged};
 ghost use Rattle.stores.specs.Faults.{storeTold};
-ghost use Rattle.stores.specs.Areas.{cut, joined, laid, lengthAnswer, keptLen, keptCount};
+ghost use Rattle.stores.specs.Areas.{allowed, cut, joined, laid, lengthAnswer, keptLen, keptCount};
 ghost use Rattle.stores.specs.ImageOf.{imageLen, imagePages, imageArea, imageRest};
 use crate::fault::StoreFault;
 use crate::front::put_front;
@@ -25,7 +25,7 @@ impl Image {
     pub fn check(page_len: usize) -> Result<(), StoreFault>
         ensures { λ r. ⌜ answer storeTold r ≡ lengthAnswer «page_len» ⌝ }
     {
-        if page_len < 1 || page_len > 1024 {
+        if !is_page_len(page_len) {
             return Err(StoreFault::PageLength);
         }
         Ok(())
@@ -58,15 +58,25 @@ impl Image {
         area
     }
 
+    // Where page p starts in the area.
+    fn start(&self, p: usize) -> usize
+        requires { ⌜ p < length (imagePages (now self)) ⌝ }
+        ensures start { λ r. ⌜ r ≡ p * imageLen (now (self .entry)) ⌝ }
+        ensures within { λ r. ⌜ r + imageLen (now (self .entry)) ≤ vec-len (now (self .entry) .area) ⌝ }
+        ensures fits { λ r. ⌜ r ≤ 67107840 ⌝ }
+    {
+        p * self.page_len()
+    }
+
     // The bytes of page p.
     fn page(&self, p: usize) -> &[u8]
         requires { ⌜ p < length (imagePages (now self)) ⌝ }
         ensures page { λ r. ⌜ getD (imagePages (now (self .entry))) p damaged ≡ sound (now r) ⌝ }
         ensures sized { λ r. ⌜ length (now r) ≡ imageLen (now (self .entry)) ⌝ }
     {
-        let at = p * self.len;
-        let area = self.area.as_slice();
-        &area[at..at + self.len]
+        let at = self.start(p);
+        let end = at + self.page_len();
+        &self.area.as_slice()[at..end]
     }
 
     // Puts the bytes in place of page p.
@@ -76,8 +86,16 @@ impl Image {
         ensures pages { λ _. ⌜ imagePages (now (self .exit)) ≡ set (imagePages (now (self .entry))) p (sound (now (bytes .entry))) ⌝ }
         ensures rest { λ _. ⌜ imageRest (now (self .exit)) ≡ imageRest (now (self .entry)) ⌝ }
     {
-        lay(self.area.as_mut_slice(), p * self.len, bytes);
+        let at = self.start(p);
+        lay(self.area.as_mut_slice(), at, bytes);
     }
+}
+
+// Whether an image can have pages of this length.
+fn is_page_len(page_len: usize) -> bool
+    ensures { λ r. ⌜ r ≡ allowed «page_len» ⌝ }
+{
+    (page_len >= 1) & (page_len <= 1024)
 }
 
 // The cut of an area of so many bytes.
@@ -88,7 +106,7 @@ fn cut_of(bytes: usize, page_len: usize) -> Cut
     ensures few { λ r. ⌜ r .count ≤ 65535 ⌝ }
     ensures within { λ r. ⌜ r .count * r .len ≤ bytes ⌝ }
 {
-    if page_len < 1 || page_len > 1024 {
+    if !is_page_len(page_len) {
         return Cut { len: 0, count: 0 };
     }
     Cut {

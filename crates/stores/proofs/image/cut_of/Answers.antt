@@ -9,4 +9,4 @@ returns c =
     let m : c .min .result ≤ c .args .bytes / c .args .page-len = omega arith in
     let k = mul-le-mul-right (c .args .page-len) m in
     let d = div-mul-le-self (c .args .bytes) (c .args .page-len) in
-    record { len = grind (arith, tells); count = grind (arith, tells); short = omega arith; few = omega arith; within = omega arith }
+    record { len = grind (arith, tells); count = grind (arith, tells); short = grind (arith, tells); few = omega arith; within = omega arith }

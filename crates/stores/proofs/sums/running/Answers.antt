@@ -1,11 +1,8 @@
 use native.Mathlib.Omega.{arith}
-use mathlib.Core.Path.{ap}
-use Prim.Native.Nat.{_%_}
 use Rattle.std.proofs.shelf.Bits.{mul-le}
 use lib.ListN.{getD}
-use Rattle.stores.specs.Sums.{checkA, checkB}
 use Rattle.stores.proofs.Totals.{total-more, total-all, weighed-more, weighed-all}
-use Rattle.stores.proofs.sums.sums_of.Needs as need
+use Rattle.stores.proofs.sums.running.Needs as need
 
 pub loop-byte-again : need.loop-byte-again
 loop-byte-again c =
@@ -16,9 +13,8 @@ loop-byte-again c =
     (omega arith, omega arith, omega arith, omega arith, omega arith)
 
 pub returns : need.returns
-unfolding checkA checkB
 returns c =
     let xs = c .args .bytes .now in let i = c .loop-byte .byte-index in
     let t = total-all xs i (c .loop-byte-test .left) in
     let w = weighed-all (c .loop-byte .place) xs i (c .loop-byte-test .left) in
-    record { plain = ap (λ n. n % 65535) (omega arith); weighed = ap (λ n. n % 65535) (omega arith) }
+    record { plain = omega arith; places = omega arith }
