@@ -50,11 +50,7 @@ impl Image {
         ensures area { λ r. ⌜ vec-items r ≡ imageArea self ⌝ }
         ensures parts { λ r. ⌜ vec-items r ≡ joined (imagePages self) ++ imageRest self ⌝ }
     {
-        let Image {
-            area,
-            len: _,
-            count: _,
-        } = self;
+        let Image { area, .. } = self;
         area
     }
 
@@ -106,12 +102,13 @@ fn cut_of(bytes: usize, page_len: usize) -> Cut
     ensures few { λ r. ⌜ r .count ≤ 65535 ⌝ }
     ensures within { λ r. ⌜ r .count * r .len ≤ bytes ⌝ }
 {
-    if !is_page_len(page_len) {
-        return Cut { len: 0, count: 0 };
-    }
-    Cut {
-        len: page_len,
-        count: (bytes / page_len).min(65535),
+    if is_page_len(page_len) {
+        Cut {
+            len: page_len,
+            count: (bytes / page_len).min(65535),
+        }
+    } else {
+        Cut { len: 0, count: 0 }
     }
 }
 
