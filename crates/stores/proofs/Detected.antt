@@ -1,7 +1,7 @@
 -- What a seal detects: the first sum moves by less than 65,535 and not by 0, and the second where the first does not.
 use mathlib.Core.Path.{_≡_, refl, sym, ap, _∙_}
 use mathlib.Core.Logic.{_⊎_, inl, inr}
-use mathlib.Core.Bool.{true, false}
+use mathlib.Core.Bool.{true}
 use mathlib.Core.List.{List}
 use Prim.Native.Nat.{ℕ, _≤_, _<_, _+_, _*_, _-_, _/_, _%_}
 use native.Mathlib.Omega.{arith}
@@ -11,8 +11,8 @@ use lib.Seq.{take-set-lt}
 use Rattle.std.proofs.shelf.Tests.{cases-bool, cases-lt, cases-eq, cases-order, eqb-true, eq-eqb, and-parts, and-from}
 use Rattle.std.proofs.shelf.Bits.{div-add-mod', mod-mul-add}
 use Rattle.std.proofs.shelf.Lists.{length-set, length-take-le, getD-set-same, getD-set-other, getD-take, take-set-le}
-use Rattle.stores.specs.Pages.{Page, sound, damaged}
-use Rattle.stores.specs.Sums.{total, weighed, checkA, checkB, pairOf, agreesAt}
+use Rattle.stores.specs.Pages.{sound, damaged}
+use Rattle.stores.specs.Sums.{total, weighed, agreesAt}
 use Rattle.stores.specs.Opened.{opened}
 use Rattle.stores.specs.Detects.{Whole, Missed, exchanged, Detects}
 use Rattle.stores.proofs.Sealed.{opened-torn, opened-sound}

@@ -1,15 +1,15 @@
 -- A layer's pages, each by a function of its number and the page below.
-use mathlib.Core.Path.{_≡_, refl, sym, ap, _∙_}
+use mathlib.Core.Path.{_≡_, sym, ap, _∙_}
 use mathlib.Core.Logic.{inl, inr}
-use mathlib.Core.List.{List, [], _∷_, map}
-use Prim.Native.Nat.{ℕ, _≤_, _<_, _+_, _*_, suc}
+use mathlib.Core.List.{List}
+use Prim.Native.Nat.{ℕ, _<_}
 use native.Mathlib.Omega.{arith}
-use lib.ListN.{length, getD, drop, set}
+use lib.ListN.{length, getD, set}
 use Rattle.std.specs.Iters.{counting}
 use Rattle.std.proofs.shelf.Tests.{cases-eq}
 use Rattle.std.proofs.shelf.Counted.{length-map-counting, getD-map-counting}
 use Rattle.std.proofs.shelf.Lists.{length-set, getD-set-same, getD-set-other, same-lists}
-use Rattle.stores.specs.Pages.{Page, sound, damaged}
+use Rattle.stores.specs.Pages.{Page, damaged}
 use Rattle.stores.specs.Opened.{each}
 
 pub length-each : (f : ℕ → Page → Page) (pages : List Page) → length (each f pages) ≡ length pages

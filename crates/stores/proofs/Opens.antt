@@ -1,5 +1,5 @@
 -- The pages of a sealed store, from the answers of the store below.
-use mathlib.Core.Path.{_≡_, refl, sym, ap, _∙_}
+use mathlib.Core.Path.{_≡_, sym, ap, _∙_}
 use mathlib.Core.Logic.{inl, inr}
 use mathlib.Core.Bool.{true, false}
 use mathlib.Core.List.{List, _++_}
@@ -19,7 +19,7 @@ use Rattle.stores.specs.Faults.{storeTold}
 use Rattle.stores.specs.Calls.{readAnswer, readBuffer, writeAnswer, writePages}
 use Rattle.stores.specs.Sums.{sealOf, agreesAt}
 use Rattle.stores.specs.Opened.{opened, each, openPages}
-use Rattle.stores.proofs.Steps.{Read, Unread, no-page, no-room, torn, page-cases, read-err, write-sure}
+use Rattle.stores.proofs.Steps.{Read, no-page, no-room, torn, page-cases, read-err, write-sure}
 use Rattle.stores.proofs.Eaches.{length-each, getD-each, each-set}
 use Rattle.stores.proofs.Sealed.{opened-sound, opened-torn, opened-damaged, opened-fresh}
 

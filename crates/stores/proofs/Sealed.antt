@@ -11,7 +11,7 @@ use Rattle.std.proofs.shelf.Parts.{overwrites}
 use Rattle.std.proofs.shelf.Tests.{eq-eqb, and-from}
 use Rattle.std.proofs.shelf.Bits.{mod-below, div-add-mod'}
 use Rattle.std.proofs.shelf.Lists.{length-append, take-at, getD-append-add, getD-at}
-use Rattle.stores.specs.Pages.{Page, sound, damaged}
+use Rattle.stores.specs.Pages.{sound, damaged}
 use Rattle.stores.specs.Sums.{checkA, checkB, sealOf, agreesAt, pairOf, quad}
 use Rattle.stores.specs.Opened.{opened}
 

@@ -1,5 +1,5 @@
 -- The running sums, a byte at a time, and after a change of one byte.
-use mathlib.Core.Path.{_≡_, refl}
+use mathlib.Core.Path.{_≡_}
 use mathlib.Core.List.{List, [], _∷_}
 use Prim.Native.Nat.{ℕ, zero, suc, _≤_, _<_, _+_, _*_}
 use native.Mathlib.Omega.{arith}

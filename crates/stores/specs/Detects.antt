@@ -4,7 +4,7 @@ use mathlib.Core.Path.{_≡_}
 use mathlib.Core.Logic.{_⊎_}
 use mathlib.Core.List.{List}
 use lib.ListN.{length, getD, set, take}
-use Rattle.stores.specs.Pages.{Page, sound, damaged}
+use Rattle.stores.specs.Pages.{sound, damaged}
 use Rattle.stores.specs.Opened.{opened}
 
 -- a page of bytes, with room for a seal, that is sound as page p behind the seal

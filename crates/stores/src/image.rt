@@ -54,6 +54,13 @@ impl Image {
         area
     }
 
+    // The number of its pages.
+    fn held(&self) -> usize
+        ensures { λ r. ⌜ r ≡ length (imagePages (now (self .entry))) ⌝ }
+    {
+        self.count
+    }
+
     // Where page p starts in the area.
     fn start(&self, p: usize) -> usize
         requires { ⌜ p < length (imagePages (now self)) ⌝ }
@@ -91,7 +98,7 @@ impl Image {
 fn is_page_len(page_len: usize) -> bool
     ensures { λ r. ⌜ r ≡ allowed «page_len» ⌝ }
 {
-    (page_len >= 1) & (page_len <= 1024)
+    page_len >= 1 && page_len <= 1024
 }
 
 // The cut of an area of so many bytes.
@@ -133,7 +140,7 @@ pub impl PageStore for Image as ImageStore {
     }
 
     fn page_count(&self) -> usize {
-        self.count
+        self.held()
     }
 
     fn read(&self, p: usize, buf: &mut [u8]) -> Result<(), StoreFault> {

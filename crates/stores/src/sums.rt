@@ -77,5 +77,7 @@ pub(crate) fn agrees(p: usize, n: usize, page: &[u8]) -> bool
     ensures { λ r. ⌜ r ≡ agreesAt n p (now (page .entry)) ⌝ }
 {
     let sums = sums_of(p, &page[0..n]);
-    (stored(page, n) == sums.plain) & (stored(page, n + 2) == sums.places)
+    let plain = stored(page, n);
+    let places = stored(page, n + 2);
+    plain == sums.plain && places == sums.places
 }

@@ -1,6 +1,6 @@
 use native.Mathlib.Omega.{arith}
 use mathlib.Core.Path.{_≡_, ap}
-use Prim.Native.Nat.{_<_, _*_}
+use Prim.Native.Nat.{_*_}
 use Rattle.std.specs.Of.Vec.{vec-items}
 use Rattle.std.proofs.shelf.Bits.{mul-le}
 use Rattle.stores.proofs.Cuts.{length-cut, ends}
