@@ -23,8 +23,8 @@ mod tests {
         let mut seal = Seal::new(Image::new(area, n + 4));
         seal.write(p, data)?;
         let image = seal.into_lower();
-        let mut page = [0u8; 1024];
-        image.read(p, &mut page)?;
+        let mut page = vec![in heap; 0u8; n + 4]?;
+        image.read(p, page.as_mut_slice())?;
         Ok(u32::from_be_bytes([page[n], page[n + 1], page[n + 2], page[n + 3]]))
     }
 
@@ -43,7 +43,7 @@ mod tests {
         check_eq(sums(rt.alloc(), 65535, 0, &ff)?, 0x07f8_23dc)?;
         check_eq(sums(rt.alloc(), 65535, 7, &ff)?, 0x07ff_23dc)?;
         check_eq(sums(rt.alloc(), 65535, 65534, &ff)?, 0x07f7_23dc)?;
-        let long = [255u8; 1020];
+        let long = vec![in rt.alloc(); 255u8; 1020]?;
         check_eq(sums(rt.alloc(), 64, 0, &long)?, 0xf807_1be4)?;
         check_eq(sums(rt.alloc(), 64, 63, &long)?, 0xf846_1be4)
     }
@@ -53,9 +53,9 @@ mod tests {
         check_eq(sums(rt.alloc(), 65535, 0, &MIXED)?, 0x02da_0c69)?;
         check_eq(sums(rt.alloc(), 65535, 300, &MIXED)?, 0x0406_0c69)?;
         check_eq(sums(rt.alloc(), 65535, 65000, &MIXED)?, 0x00c3_0c69)?;
-        let mut long = [0u8; 1020];
-        for j in 0..1020 {
-            long[j] = ((37 * j + 11) % 256) as u8;
+        let mut long = Vec::new(rt.alloc());
+        for j in 0u32..1020 {
+            long.push(((37 * j + 11) % 256) as u8)?;
         }
         check_eq(sums(rt.alloc(), 64, 5, &long)?, 0xfb4c_b551)?;
         check_eq(sums(rt.alloc(), 64, 62, &long)?, 0xfb85_b551)
@@ -103,8 +103,8 @@ mod tests {
     // The one exchange that both sums miss: 257 data bytes, the last of them 00, and FF as the sums' first byte.
     #[test]
     fn the_missed_exchange(rt: LibcRuntime) -> Result<(), Fail> {
-        let mut data = [255u8; 257];
-        data[256] = 0;
+        let mut data = vec![in rt.alloc(); 255u8; 256]?;
+        data.push(0)?;
         check_eq(sums(rt.alloc(), 1, 0, &data)?, 0xff00_0000)?;
         data[256] = 255;
         check_eq(sums(rt.alloc(), 1, 0, &data)?, 0x0000_0000)
