@@ -11,14 +11,18 @@ use Rattle.stores.specs.Areas.{cut}
 abbrev pub imageLen : Image → ℕ
 imageLen i = i .len
 
+-- its page count
+abbrev pub imageCount : Image → ℕ
+imageCount i = i .count
+
 -- all its bytes
 abbrev pub imageArea : Image → List ℕ
 imageArea i = vec-items (i .area)
 
 -- its pages, none of them damaged
 abbrev pub imagePages : Image → List Page
-imagePages i = cut (i .len) (i .count) (imageArea i)
+imagePages i = cut (imageLen i) (imageCount i) (imageArea i)
 
 -- the bytes behind its last page
 abbrev pub imageRest : Image → List ℕ
-imageRest i = drop (i .count * i .len) (imageArea i)
+imageRest i = drop (imageCount i * imageLen i) (imageArea i)

@@ -7,7 +7,7 @@ ghost use Rattle.refusals.specs.Answer.{answer};
 ghost use Rattle.stores.specs.Pages.{sound, damaged};
 ghost use Rattle.stores.specs.Faults.{storeTold};
 ghost use Rattle.stores.specs.Areas.{allowed, cut, joined, laid, lengthAnswer, keptLen, keptCount};
-ghost use Rattle.stores.specs.ImageOf.{imageLen, imagePages, imageArea, imageRest};
+ghost use Rattle.stores.specs.ImageOf.{imageLen, imageCount, imagePages, imageArea, imageRest};
 use crate::fault::StoreFault;
 use crate::front::put_front;
 use crate::image_area::Image;
@@ -34,6 +34,7 @@ impl Image {
     // The area as pages of this length; without any, of length 0, where the length is not allowed.
     pub fn new(area: Vec<u8>, page_len: usize) -> Image
         ensures len { λ r. ⌜ imageLen r ≡ keptLen «page_len» ⌝ }
+        ensures count { λ r. ⌜ imageCount r ≡ keptCount «page_len» (vec-len area) ⌝ }
         ensures pages { λ r. ⌜ imagePages r ≡ cut (keptLen «page_len») (keptCount «page_len» (vec-len area)) (vec-items area) ⌝ }
         ensures area { λ r. ⌜ imageArea r ≡ vec-items area ⌝ }
     {
@@ -56,7 +57,8 @@ impl Image {
 
     // The number of its pages.
     fn held(&self) -> usize
-        ensures { λ r. ⌜ r ≡ length (imagePages (now (self .entry))) ⌝ }
+        ensures count { λ r. ⌜ r ≡ imageCount (now (self .entry)) ⌝ }
+        ensures pages { λ r. ⌜ r ≡ length (imagePages (now (self .entry))) ⌝ }
     {
         self.count
     }

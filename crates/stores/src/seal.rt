@@ -1,10 +1,8 @@
 ghost use mathlib.Core.Path.{_≡_};
-ghost use Prim.Native.Nat.{_-_, _<_, _≤_};
+ghost use Prim.Native.Nat.{_-_, _<_};
 ghost use lib.ListN.{length, getD, set};
 ghost use Rattle.std.specs.declared.result.Result.the-variants.{Ok};
-ghost use Rattle.refusals.specs.Answer.{answer};
 ghost use Rattle.stores.specs.Pages.{sound, damaged};
-ghost use Rattle.stores.specs.Faults.{storeTold};
 ghost use Rattle.stores.specs.Detects.{Detects};
 ghost use Rattle.stores.specs.Opened.{openPages, Opens};
 use crate::fault::StoreFault;
@@ -20,7 +18,7 @@ pub struct Seal<S> {
 }
 
 impl<S> Seal<S> {
-    // Seals a store. Its pages are then damaged where one byte, the order of two or the page's number is not as written.
+    // Seals a store. Which changes below it a seal detects stands in specs/Detects.antt.
     pub fn new(lower: S) -> Seal<S>
         ensures lower { λ r. ⌜ r .lower ≡ lower ⌝ }
         ensures detects { λ _. ⌜ Detects ⌝ }
