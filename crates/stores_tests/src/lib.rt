@@ -75,27 +75,36 @@ mod tests {
         check_eq(buf[8], 9)
     }
 
+    // The length and the count of pages under two seals, over 90 bytes in pages of this length.
+    fn under_two_seals(heap: Global, len: usize) -> Result<(usize, usize), Fail> {
+        let seal = Seal::new(Seal::new(Image::new(vec![in heap; 0u8; 90]?, len)));
+        Ok((seal.page_len(), seal.page_count()))
+    }
+
     // Two seals need 8 bytes; with fewer there are no pages.
     #[test]
     fn two_seals(rt: LibcRuntime) -> Result<(), Fail> {
-        let lens = [4usize, 7, 8, 9];
-        let pages = [0usize, 0, 11, 10];
-        for i in 0..4 {
-            let area = vec![in rt.alloc(); 0u8; 90]?;
-            let seal = Seal::new(Seal::new(Image::new(area, lens[i])));
-            check_eq(seal.page_count(), pages[i])?;
-            check_eq(seal.page_len(), lens[i].saturating_sub(8))?;
-        }
-        let area = vec![in rt.alloc(); 7u8; 35]?;
-        let mut seal = Seal::new(Seal::new(Image::new(area, 16)));
+        check_eq(under_two_seals(rt.alloc(), 4)?, (0, 0))?;
+        check_eq(under_two_seals(rt.alloc(), 7)?, (0, 0))?;
+        check_eq(under_two_seals(rt.alloc(), 8)?, (0, 11))?;
+        check_eq(under_two_seals(rt.alloc(), 9)?, (1, 10))
+    }
+
+    // An area of sevens in pages of 16 bytes, once the second page is written under two seals.
+    fn written(heap: Global) -> Result<Vec<u8>, Fail> {
+        let mut seal = Seal::new(Seal::new(Image::new(vec![in heap; 7u8; 35]?, 16)));
         let mut buf = [0u8; 8];
-        check_eq(write_and_read(&mut seal, 1, &MIXED, &mut buf), Ok(()))?;
+        write_and_read(&mut seal, 1, &MIXED, &mut buf)?;
         check_eq(u64::from_be_bytes(buf), u64::from_be_bytes(MIXED))?;
-        check_eq(seal.write(1, &MIXED[0..7]), Err(StoreFault::WrongLength))?;
-        check_eq(seal.write(2, &MIXED), Err(StoreFault::NoSuchPage(2)))?;
-        let area = seal.into_lower().into_lower().into_area();
+        Ok(seal.into_lower().into_lower().into_area())
+    }
+
+    #[test]
+    fn a_page_under_two_seals(rt: LibcRuntime) -> Result<(), Fail> {
+        let area = written(rt.alloc())?;
         check(area.len() == 35)?;
         check_eq(area[15], 7)?;
+        check_eq(area[16], 1)?;
         check_ne(area[31], 7)?;
         check_eq(area[34], 7)
     }
