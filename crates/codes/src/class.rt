@@ -555,7 +555,7 @@ fn entry(first: u8) -> (u8, u8)
 }
 
 // The class of a first byte.
-pub fn class_of(first: u8) -> Class
+pub(crate) fn class_of(first: u8) -> Class
     ensures { λ r. ⌜ Rule first r ⌝ }
 {
     let (number, exponent) = entry(first);

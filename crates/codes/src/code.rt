@@ -51,7 +51,7 @@ pub trait ColumnCode: Sized {
 }
 
 // Writes the bytes to the front of the output and answers their number, or None where there is no room.
-pub fn put_front(bytes: &[u8], out: &mut [u8]) -> Option<usize>
+pub(crate) fn put_front(bytes: &[u8], out: &mut [u8]) -> Option<usize>
     ensures { λ r. ⌜ Put (now (bytes .entry)) (now (out .entry)) (now (out .exit)) r ⌝ }
 {
     let n = bytes.len();
@@ -63,7 +63,7 @@ pub fn put_front(bytes: &[u8], out: &mut [u8]) -> Option<usize>
 }
 
 // Flips every bit of every byte.
-pub fn complement(bytes: &mut [u8])
+pub(crate) fn complement(bytes: &mut [u8])
     ensures { λ _. ⌜ now (bytes .exit) ≡ flipped (now (bytes .entry)) ⌝ }
 {
     for b in bytes.iter_mut() {

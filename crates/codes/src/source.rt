@@ -52,14 +52,14 @@ impl<'a> Source<'a> {
     }
 
     // How many there are.
-    pub fn len(self) -> usize
+    pub(crate) fn len(self) -> usize
         ensures { λ r. ⌜ r ≡ length (seen (self .entry)) ⌝ }
     {
         self.bytes.len()
     }
 
     // The same bytes, complemented.
-    pub fn turned(self) -> Source<'a>
+    pub(crate) fn turned(self) -> Source<'a>
         ensures turn { λ r. ⌜ seen r ≡ flipped (seen (self .entry)) ⌝ }
         ensures back { λ r. ⌜ seen (self .entry) ≡ flipped (seen r) ⌝ }
     {
@@ -70,7 +70,7 @@ impl<'a> Source<'a> {
     }
 
     // The first byte and the rest.
-    pub fn split(self) -> Option<(u8, Source<'a>)>
+    pub(crate) fn split(self) -> Option<(u8, Source<'a>)>
         ensures { λ r. ⌜ Split (seen (self .entry)) r ⌝ }
     {
         match self.bytes {
@@ -86,7 +86,7 @@ impl<'a> Source<'a> {
     }
 
     // What stands behind the first `n` bytes.
-    pub fn skip(self, n: usize) -> Source<'a>
+    pub(crate) fn skip(self, n: usize) -> Source<'a>
         ensures { λ r. ⌜ seen r ≡ drop n (seen (self .entry)) ⌝ }
     {
         let start = n.min(self.bytes.len());
@@ -97,7 +97,7 @@ impl<'a> Source<'a> {
     }
 
     // The byte at a place.
-    pub fn at(self, i: usize) -> Option<u8>
+    pub(crate) fn at(self, i: usize) -> Option<u8>
         ensures { λ r. ⌜ Cases r (length (seen (self .entry)) ≤ i) (λ b. (i < length (seen (self .entry))) × (b ≡ getD (seen (self .entry)) i 0)) ⌝ }
     {
         if i >= self.bytes.len() {
@@ -107,7 +107,7 @@ impl<'a> Source<'a> {
     }
 
     // The place of the first byte 00.
-    pub fn zero(self) -> Option<usize>
+    pub(crate) fn zero(self) -> Option<usize>
         ensures { λ r. ⌜ FirstZero (seen (self .entry)) r ⌝ }
     {
         for i in 0..self.bytes.len() {

@@ -3,3 +3,4 @@ pub mod Means
 pub mod Making
 pub mod Writing
 pub mod Reading
+pub mod Ordering

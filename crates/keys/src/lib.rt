@@ -1,4 +1,5 @@
 // Plans, records and their keys.
+mod comparing;
 mod direction;
 mod key;
 mod plan;
@@ -12,6 +13,7 @@ pub use codes::KeyRefusal;
 pub use codes::Sign;
 pub use codes::Text;
 pub use codes::Value;
+pub use comparing::compare;
 pub use direction::Direction;
 pub use key::MAX_KEY;
 pub use key::key_len;

@@ -173,7 +173,7 @@ pub fn read_column(
     if column < 1 || column > directions.len() {
         return Err(KeyFault::Columns);
     }
-    if bytes.len() > MAX_KEY {
+    if MAX_KEY < bytes.len() {
         return Err(KeyFault::ReadLength);
     }
     let mut texts = [0u8; MAX_KEY];

@@ -182,7 +182,7 @@ fn read_amount(source: Source) -> Result<(Decimal, usize), usize>
 }
 
 // A decimal.
-pub fn read_decimal(source: Source) -> Result<(Decimal, usize), usize>
+pub(crate) fn read_decimal(source: Source) -> Result<(Decimal, usize), usize>
     ensures { λ r. ⌜ DecimalRead (seen (source .entry)) r ⌝ }
 {
     let Some((first, _)) = source.split() else {
