@@ -31,10 +31,19 @@ pub fn check_key(plan: &Plan, bytes: &[u8]) -> Result<(), KeyFault>
     ensures place { λ _. ⌜ OnePlace (directionsOf (now (plan .entry))) ⌝ }
     ensures round { λ _. ⌜ RoundTrip (directionsOf (now (plan .entry))) ⌝ }
 {
+    check_columns(plan.directions(), bytes)
+}
+
+// The same, for the columns of a plan.
+fn check_columns(directions: &[Direction], bytes: &[u8]) -> Result<(), KeyFault>
+    ensures answer { λ r. ⌜ Checked (now (directions .entry)) (now (bytes .entry)) (answer keyTold r) ⌝ }
+    ensures place { λ _. ⌜ OnePlace (now (directions .entry)) ⌝ }
+    ensures round { λ _. ⌜ RoundTrip (now (directions .entry)) ⌝ }
+{
     if bytes.len() > MAX_KEY {
         return Err(KeyFault::ReadLength);
     }
-    match whole(plan.directions(), bytes) {
+    match whole(directions, bytes) {
         Ok(()) => Ok(()),
         Err(at) => Err(KeyFault::NoKey(at)),
     }
@@ -173,7 +182,7 @@ pub fn read_column(
     if column < 1 || column > directions.len() {
         return Err(KeyFault::Columns);
     }
-    if MAX_KEY < bytes.len() {
+    if bytes.len() > MAX_KEY {
         return Err(KeyFault::ReadLength);
     }
     let mut texts = [0u8; MAX_KEY];
