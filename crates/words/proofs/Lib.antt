@@ -1,0 +1,3 @@
+pub mod Tenfold
+pub mod Pairs
+pub mod Letters
