@@ -1,7 +1,5 @@
 use std::alloc::AllocError;
-use std::alloc::Refused;
 use std::io;
-use words::WordFault;
 
 // Why the program ends with status 1.
 #[derive(Drop)]

@@ -7,11 +7,12 @@ mod row;
 mod session;
 
 use failure::Failure;
+use failure::FailureFromAlloc;
 use failure::FailureFromIo;
-use failure::FailureFromWord;
 use input::argument;
 use input::without_newline;
 use session::Session;
+use std::io::BufRead;
 use std::io::BufReader;
 use std::io::Write;
 
