@@ -13,11 +13,11 @@ use Rattle.std.specs.declared.option.Option.{Option}
 use Rattle.std.specs.declared.option.Option.the-variants.{Some, None}
 use Rattle.keys.specs.declared.direction.Direction.{Direction}
 use Rattle.keys.specs.declared.direction.Direction.the-variants.{Ascending, Descending}
-use Rattle.keys.specs.Values.{Datum, null, clean}
-use Rattle.keys.specs.Codes.{datumCode}
+use Rattle.codes.specs.Values.{Datum, null, clean}
+use Rattle.codes.specs.Codes.{datumCode}
 use Rattle.keys.specs.Records.{codeIn, key}
 use Rattle.keys.specs.Writing.{codesLength, zeroColumn}
-use Rattle.keys.proofs.Puts.{length-flipped}
+use Rattle.codes.proofs.Puts.{length-flipped}
 
 -- the first column that is not clean, from column i on
 pub zero-here : (r : List Datum) (i : ℕ) (d : Datum) → i < length r → getD r i null ≡ d → clean d ≡ false → zeroColumn (i + 1) (drop i r) ≡ Some (i + 1)

@@ -1,11 +1,2 @@
-pub mod Orders
-pub mod Digits
-pub mod Numbers
-pub mod Texts
-pub mod Data
-pub mod Rows
-pub mod Scans
-pub mod Puts
-pub mod Marks
-pub mod Plains
 pub mod Columns
+pub mod Rows

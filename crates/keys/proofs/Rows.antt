@@ -10,13 +10,19 @@ use Rattle.std.specs.shelf.Lists.{All}
 use Rattle.std.proofs.shelf.Signed.{ints}
 use Rattle.keys.specs.declared.direction.Direction.{Direction}
 use Rattle.keys.specs.declared.direction.Direction.the-variants.{Ascending, Descending}
-use Rattle.keys.specs.Strings.{Less}
-use Rattle.keys.specs.Decimals.{Number, Shaped, worth}
-use Rattle.keys.specs.Values.{Datum, null, decimal, text, Valid, Earlier, Even}
+use Rattle.codes.specs.Strings.{Less}
+use Rattle.codes.specs.Decimals.{Number, Shaped, worth}
+use Rattle.codes.specs.Values.{Datum, null, decimal, text, Valid, Earlier, Even}
 use Rattle.keys.specs.Records.{codeIn, EarlierIn, key, IsRecord, Precedes, Equals, KeyOrder}
-use Rattle.keys.proofs.Orders.{Parts, parts, parts-less, parts-append, parts-after, less-irrefl, less-asym}
-use Rattle.keys.proofs.Numbers.{numbers-total}
-use Rattle.keys.proofs.Data.{column-laws}
+use Rattle.codes.proofs.Orders.{Parts, parts, parts-less, parts-append, parts-after, less-irrefl, less-asym, descending}
+use Rattle.codes.proofs.Numbers.{numbers-total}
+use Rattle.codes.specs.Laws.{Laws}
+use Rattle.codes.proofs.Data.{datum-laws}
+
+-- a column's code keeps the laws in either direction
+pub column-laws : (c : Direction) → Laws Valid (codeIn c) (EarlierIn c)
+column-laws Ascending = datum-laws
+column-laws Descending = descending datum-laws
 
 even-refl : (a : Datum) → Even a a
 even-refl null = tt

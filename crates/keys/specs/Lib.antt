@@ -1,12 +1,4 @@
-pub mod Strings
-pub mod Decimals
-pub mod Values
-pub mod Codes
-pub mod Laws
 pub mod Records
 pub mod Means
-pub mod Refusals
 pub mod Making
 pub mod Writing
-pub mod Worked
-pub mod Leads

@@ -7,9 +7,9 @@ use lib.ListN.{length}
 use Rattle.std.specs.shelf.Lists.{All}
 use Rattle.keys.specs.declared.direction.Direction.{Direction}
 use Rattle.keys.specs.declared.direction.Direction.the-variants.{Ascending, Descending}
-use Rattle.keys.specs.Strings.{Less, flipped}
-use Rattle.keys.specs.Values.{Datum, Valid, Earlier, Even}
-use Rattle.keys.specs.Codes.{datumCode}
+use Rattle.codes.specs.Strings.{Less, flipped}
+use Rattle.codes.specs.Values.{Datum, Valid, Earlier, Even}
+use Rattle.codes.specs.Codes.{datumCode}
 
 -- a value's bytes in a column: complemented whole where the column descends
 abbrev pub codeIn : Direction → Datum → List ℕ

@@ -9,9 +9,9 @@ use Rattle.std.specs.declared.option.Option.{Option}
 use Rattle.std.specs.declared.option.Option.the-variants.{Some, None}
 use Rattle.refusals.specs.Answer.{Answer, gives, refuses}
 use Rattle.keys.specs.declared.direction.Direction.{Direction}
-use Rattle.keys.specs.Values.{Datum, clean}
-use Rattle.keys.specs.Codes.{datumCode}
-use Rattle.keys.specs.Laws.{counted}
+use Rattle.codes.specs.Values.{Datum, clean}
+use Rattle.codes.specs.Codes.{datumCode}
+use Rattle.codes.specs.Laws.{counted}
 use Rattle.keys.specs.Records.{IsRecord, key}
 
 -- the first column, counted from c, whose value is a text with a byte 00

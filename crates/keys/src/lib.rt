@@ -1,31 +1,19 @@
-// Values, plans, column codes and keys.
-mod code;
-mod decimal;
+// Plans, records and their keys.
 mod direction;
-mod fault;
 mod key;
 mod plan;
-mod sign;
-mod value;
+mod row;
 
-pub use code::ColumnCode;
-pub use code::any::ValueCode;
-pub use code::descending::Descending;
-pub use code::descending::DescendingCode;
-pub use code::null::Null;
-pub use code::null::NullCode;
-pub use code::number::DecimalCode;
-pub use code::text::TextCode;
-pub use decimal::Amount;
-pub use decimal::Decimal;
+pub use codes::Amount;
+pub use codes::Decimal;
+pub use codes::KeyFault;
+pub use codes::KeyRefusal;
+pub use codes::Sign;
+pub use codes::Text;
+pub use codes::Value;
 pub use direction::Direction;
-pub use fault::KeyFault;
-pub use fault::KeyRefusal;
 pub use key::MAX_KEY;
 pub use key::key_len;
 pub use key::write_key;
 pub use plan::Plan;
-pub use sign::Sign;
-pub use value::Record;
-pub use value::Text;
-pub use value::Value;
+pub use row::Record;

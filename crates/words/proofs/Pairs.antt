@@ -5,7 +5,7 @@ use Prim.Native.Nat.{ℕ, _+_, _*_, _/_, _%_, _<_}
 use native.Mathlib.Omega.{arith}
 use lib.ListN.{length, take, getD}
 use Rattle.std.proofs.shelf.Lists.{take-more}
-use Rattle.keys.specs.Strings.{Bytes}
+use Rattle.codes.specs.Strings.{Bytes}
 use Rattle.words.specs.Hex.{hex, hexDigit, Added}
 
 hex-append : (xs ys : List ℕ) → hex (xs ++ ys) ≡ hex xs ++ hex ys

@@ -4,7 +4,7 @@ use mathlib.Core.Path.{_≡_}
 use mathlib.Core.List.{List, [], _∷_, _++_}
 use Prim.Native.Nat.{ℕ, _+_, _/_, _%_}
 use lib.Dec.{ltb}
-use Rattle.keys.specs.Strings.{Bytes}
+use Rattle.codes.specs.Strings.{Bytes}
 
 -- the digit of a number below 16
 abbrev pub hexDigit : ℕ → ℕ

@@ -8,7 +8,7 @@ ghost use lib.ListN.{length, take};
 ghost use Rattle.std.specs.Options.{Cases as BySome};
 ghost use Rattle.refusals.specs.Answer.{answerAs};
 ghost use Rattle.keys.specs.Means.{directionsOf};
-ghost use Rattle.keys.specs.Refusals.{keyTold};
+ghost use Rattle.codes.specs.Refusals.{keyTold};
 ghost use Rattle.words.specs.Plans.{directionOf, letters, planWord};
 use keys::Direction;
 use keys::KeyFault;

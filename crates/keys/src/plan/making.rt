@@ -4,10 +4,10 @@ ghost use lib.ListN.{length, take};
 ghost use Rattle.refusals.specs.Answer.{answerAs};
 ghost use Rattle.keys.specs.Making.{planAnswer};
 ghost use Rattle.keys.specs.Means.{directionsOf};
-ghost use Rattle.keys.specs.Refusals.{keyTold};
+ghost use Rattle.codes.specs.Refusals.{keyTold};
 use crate::direction::Direction;
-use crate::fault::KeyFault;
 use crate::plan::Plan;
+use codes::KeyFault;
 
 impl Plan {
     // The plan with these columns; refused by 5 if they are not 1 to 8.

@@ -15,13 +15,13 @@ use Rattle.std.proofs.shelf.Lists.{length-map}
 use Rattle.std.proofs.shelf.Tests.{eq-eqb, ne-eqb}
 use Rattle.refusals.specs.Answer.{Answer, gives, refuses, answer}
 use Rattle.keys.specs.declared.direction.Direction.{Direction}
-use Rattle.keys.specs.declared.fault.KeyFault.{KeyFault}
-use Rattle.keys.specs.Laws.{counted}
+use Rattle.codes.specs.declared.fault.KeyFault.{KeyFault}
+use Rattle.codes.specs.Laws.{counted}
 use Rattle.keys.specs.Means.{dataOf}
-use Rattle.keys.specs.Values.{Datum, Valid}
+use Rattle.codes.specs.Values.{Datum, Valid}
 use Rattle.keys.specs.Records.{IsRecord, key}
-use Rattle.keys.specs.Refusals.{keyTold}
-use Rattle.keys.specs.Worked.{WorkedKeys}
+use Rattle.codes.specs.Refusals.{keyTold}
+use Rattle.codes.specs.Worked.{WorkedKeys}
 use Rattle.keys.specs.Writing.{CodesLen, codesLength, columnsAnswer, unlessZero, zeroColumn}
 use Rattle.keys.proofs.Columns.{length-key}
 use Rattle.keys.proofs.Rows.{key-order}

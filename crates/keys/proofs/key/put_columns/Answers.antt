@@ -7,8 +7,9 @@ use borrow.Author.Needs.{needs}
 use Rattle.std.proofs.shelf.Lists.{getD-map, length-map, take-all}
 use Rattle.keys.specs.declared.direction.Direction.{Direction}
 use Rattle.keys.specs.declared.direction.Direction.the-variants.{Ascending}
-use Rattle.keys.specs.Means.{dataOf, datumOf}
-use Rattle.keys.specs.Values.{Datum, null}
+use Rattle.keys.specs.Means.{dataOf}
+use Rattle.codes.specs.Means.{datumOf}
+use Rattle.codes.specs.Values.{Datum, null}
 use Rattle.keys.specs.Records.{codeIn, key}
 use Rattle.keys.proofs.Columns.{key-more, key-split, put-next}
 use Rattle.keys.proofs.key.put_columns.Needs as need

@@ -5,9 +5,10 @@ use lib.ListN.{length, take, drop, getD}
 use Rattle.std.proofs.shelf.Lists.{getD-map, length-map, take-all}
 use Rattle.std.proofs.shelf.Elements.{all-more}
 use Rattle.refusals.specs.Answer.{gives}
-use Rattle.keys.specs.Laws.{counted}
-use Rattle.keys.specs.Means.{dataOf, datumOf}
-use Rattle.keys.specs.Values.{Datum, null, Valid}
+use Rattle.codes.specs.Laws.{counted}
+use Rattle.keys.specs.Means.{dataOf}
+use Rattle.codes.specs.Means.{datumOf}
+use Rattle.codes.specs.Values.{Datum, null, Valid}
 use Rattle.keys.specs.Writing.{codesLength, unlessZero, zeroColumn}
 use Rattle.keys.proofs.Columns.{zero-here, zero-later, zero-none, codes-more}
 use Rattle.keys.proofs.key.values_len.Needs as need

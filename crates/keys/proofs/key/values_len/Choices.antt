@@ -2,9 +2,9 @@ use mathlib.Core.Path.{_≡_}
 use Prim.Native.Nat.{_+_}
 use lib.ListN.{take, drop}
 use Rattle.std.specs.shelf.Lists.{All}
-use Rattle.keys.specs.Laws.{counted}
+use Rattle.codes.specs.Laws.{counted}
 use Rattle.keys.specs.Means.{dataOf}
-use Rattle.keys.specs.Values.{Valid}
+use Rattle.codes.specs.Values.{Valid}
 use Rattle.keys.specs.Writing.{codesLength, zeroColumn}
 use Rattle.keys.proofs.key.values_len.Given as given
 

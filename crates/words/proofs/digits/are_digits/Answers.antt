@@ -1,6 +1,6 @@
 use mathlib.Core.Path.{_≡_, refl, sym, _∙_}
 use Rattle.std.specs.Text.{asciiDigit}
-use Rattle.keys.proofs.Scans.{stops, goes, ends}
+use Rattle.codes.proofs.Scans.{stops, goes, ends}
 use Rattle.words.specs.Digits.{allDigits}
 use Rattle.words.proofs.digits.are_digits.Needs as need
 

@@ -3,7 +3,7 @@ use mathlib.Core.List.{[], _∷_, _++_, map}
 use native.Mathlib.Omega.{arith}
 use lib.ListN.{length, take, getD, length-set}
 use Rattle.std.proofs.shelf.Lists.{take-more-set, map-more, take-all}
-use Rattle.keys.proofs.Scans.{stops, goes, ends}
+use Rattle.codes.proofs.Scans.{stops, goes, ends}
 use Rattle.words.specs.Plans.{letters, directionOf}
 use Rattle.words.proofs.Letters.{isLetter}
 use Rattle.words.proofs.plan.columns_of.Needs as need

@@ -3,7 +3,7 @@ use native.Mathlib.Omega.{arith}
 use lib.ListN.{length, length-set}
 use Rattle.std.proofs.shelf.Lists.{take-all}
 use Rattle.keys.specs.declared.direction.Direction.the-variants.{Ascending}
-use Rattle.keys.proofs.Scans.{copied}
+use Rattle.codes.proofs.Scans.{copied}
 use Rattle.keys.proofs.plan.making.padded.Needs as need
 
 pub loop-i-again : need.loop-i-again

@@ -1,0 +1,10 @@
+pub mod Strings
+pub mod Decimals
+pub mod Values
+pub mod Codes
+pub mod Laws
+pub mod Means
+pub mod Refusals
+pub mod Making
+pub mod Leads
+pub mod Worked

@@ -1,5 +1,0 @@
-use Rattle.keys.proofs.Puts.{clipped}
-use Rattle.keys.proofs.code.text.bytes_of.Needs as need
-
-pub returns : need.returns
-returns c = clipped (c .args .texts .now) (c .args .text .start) (c .args .text .len) (c .min-start .result) (c .min-len .result) (c .min-start .ensures) (c .min-len .ensures)
