@@ -1,3 +1,5 @@
 pub mod Tenfold
 pub mod Pairs
 pub mod Letters
+pub mod Texts
+pub mod Splits

@@ -1,3 +1,6 @@
 pub mod Digits
+pub mod Numbers
 pub mod Hex
 pub mod Plans
+pub mod Lines
+pub mod Values

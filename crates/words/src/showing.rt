@@ -2,7 +2,11 @@ ghost use mathlib.Core.Path.{_≡_};
 ghost use Prim.Native.Nat.{_*_, _≤_};
 ghost use lib.IntN.{natAbs};
 ghost use lib.ListN.{length};
-ghost use Rattle.std.specs.Of.Vec.{vec-len};
+ghost use mathlib.Core.List.{_++_};
+ghost use Rattle.codes.specs.Means.{datumOf, numberOf, textOf};
+ghost use Rattle.codes.specs.Values.{decimal};
+ghost use Rattle.words.specs.Values.{Shown, allTypable, quoted, textShown, tilded, typable};
+ghost use Rattle.std.specs.Of.Vec.{vec-items, vec-len};
 ghost use Rattle.std.specs.Vec.{made};
 use crate::digits::without_back_zeros;
 use crate::digits::without_front_zeros;
@@ -21,45 +25,78 @@ pub fn push_value(
     out: &mut Vec<u8>,
     value: Value,
     texts: &[u8],
-) -> Result<(), AllocError> {
+) -> Result<(), AllocError>
+    ensures { λ r. ⌜ made r (λ _. Shown (datumOf value (now (texts .entry))) (vec-items (now (out .entry))) (vec-items (now (out .exit)))) ⌝ }
+{
     match value {
         Value::Null => out.extend_from_slice(b"null"),
-        Value::Decimal(decimal) => push_decimal(heap, out, decimal),
+        Value::Decimal(d) => push_decimal(heap, out, d),
         Value::Text(text) => push_text(out, text_bytes(text, texts)),
     }
 }
 
 // Adds a decimal in base ten without outer zeros.
-fn push_decimal(heap: Global, out: &mut Vec<u8>, decimal: Decimal) -> Result<(), AllocError> {
-    match decimal {
+fn push_decimal(heap: Global, out: &mut Vec<u8>, d: Decimal) -> Result<(), AllocError>
+    ensures { λ r. ⌜ made r (λ _. Shown (decimal (numberOf d)) (vec-items (now (out .entry))) (vec-items (now (out .exit)))) ⌝ }
+{
+    match d {
         Decimal::Zero => out.extend_from_slice(b"0"),
         Decimal::Amount(amount) => push_amount(heap, out, &amount),
     }
 }
 
 // The bytes of a text, in those that are lent beside it: what there is of them.
-fn text_bytes(text: Text, texts: &[u8]) -> &[u8] {
+fn text_bytes(text: Text, texts: &[u8]) -> &[u8]
+    ensures { λ r. ⌜ now r ≡ textOf text (now (texts .entry)) ⌝ }
+{
     let start = text.start.min(texts.len());
     let len = text.len.min(texts.len() - start);
     &texts[start..start + len]
 }
 
 // Adds a text: in marks where each of its bytes can be typed between them, else as hexadecimal pairs behind a tilde.
-fn push_text(out: &mut Vec<u8>, text: &[u8]) -> Result<(), AllocError> {
+fn push_text(out: &mut Vec<u8>, text: &[u8]) -> Result<(), AllocError>
+    ensures { λ r. ⌜ made r (λ _. vec-items (now (out .exit)) ≡ vec-items (now (out .entry)) ++ textShown (now (text .entry))) ⌝ }
+{
     if can_be_quoted(text) {
-        out.push(b'"')?;
-        out.extend_from_slice(text)?;
-        out.push(b'"')?;
-        return Ok(());
+        push_quoted(out, text)
+    } else {
+        push_tilded(out, text)
     }
-    out.push(b'~')?;
-    push_hex(out, text)
+}
+
+// Adds a text in marks.
+fn push_quoted(out: &mut Vec<u8>, text: &[u8]) -> Result<(), AllocError>
+    ensures { λ r. ⌜ made r (λ _. vec-items (now (out .exit)) ≡ vec-items (now (out .entry)) ++ quoted (now (text .entry))) ⌝ }
+{
+    out.extend_from_slice(b"\"")?;
+    out.extend_from_slice(text)?;
+    out.extend_from_slice(b"\"")?;
+    Ok(())
+}
+
+// Adds a text as hexadecimal pairs behind a tilde.
+fn push_tilded(out: &mut Vec<u8>, text: &[u8]) -> Result<(), AllocError>
+    ensures { λ r. ⌜ made r (λ _. vec-items (now (out .exit)) ≡ vec-items (now (out .entry)) ++ tilded (now (text .entry))) ⌝ }
+{
+    out.extend_from_slice(b"~")?;
+    push_hex(out, text)?;
+    Ok(())
+}
+
+// Whether a byte is printable ASCII and no mark.
+fn is_typable(b: u8) -> bool
+    ensures { λ r. ⌜ r ≡ typable b ⌝ }
+{
+    b >= 0x20 && b <= 0x7E && b != b'"'
 }
 
 // Whether each byte is printable ASCII and no mark.
-fn can_be_quoted(text: &[u8]) -> bool {
+fn can_be_quoted(text: &[u8]) -> bool
+    ensures { λ r. ⌜ r ≡ allTypable (now (text .entry)) ⌝ }
+{
     for b in text {
-        if *b < 0x20 || *b > 0x7E || *b == b'"' {
+        if !is_typable(*b) {
             return false;
         }
     }
