@@ -3,3 +3,4 @@ pub mod Pairs
 pub mod Letters
 pub mod Texts
 pub mod Splits
+pub mod Worths

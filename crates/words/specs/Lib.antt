@@ -1,5 +1,6 @@
 pub mod Digits
 pub mod Numbers
+pub mod Tens
 pub mod Hex
 pub mod Plans
 pub mod Lines

@@ -3,7 +3,10 @@ ghost use mathlib.Core.List.{_++_};
 ghost use Prim.Native.Nat.{ℕ, _^_, _<_, _≤_};
 ghost use lib.ListN.{length, replicate};
 ghost use Rattle.std.specs.Options.{Cases as BySome};
+ghost use Rattle.std.specs.Of.Vec.{vec-items};
+ghost use Rattle.std.specs.Vec.{made};
 ghost use Rattle.words.specs.Digits.{allDigits, digitOf, numberWord, written};
+use std::alloc::AllocError;
 
 // The number that a digit writes; 0 for any other byte.
 pub fn digit(b: u8) -> u8
@@ -74,4 +77,14 @@ pub fn without_back_zeros(digits: &[u8]) -> &[u8]
         n -= 1;
     }
     &digits[0..n]
+}
+
+// Adds a number of zeros.
+pub fn push_zeros(out: &mut Vec<u8>, count: usize) -> Result<(), AllocError>
+    ensures { λ r. ⌜ made r (λ _. vec-items (now (out .exit)) ≡ vec-items (now (out .entry)) ++ replicate count 48) ⌝ }
+{
+    for _i in 0..count {
+        out.push(b'0')?;
+    }
+    Ok(())
 }

@@ -8,6 +8,7 @@ ghost use Rattle.codes.specs.Values.{decimal};
 ghost use Rattle.words.specs.Values.{Shown, allTypable, quoted, textShown, tilded, typable};
 ghost use Rattle.std.specs.Of.Vec.{vec-items, vec-len};
 ghost use Rattle.std.specs.Vec.{made};
+use crate::digits::push_zeros;
 use crate::digits::without_back_zeros;
 use crate::digits::without_front_zeros;
 use crate::hex::push_hex;
@@ -147,14 +148,6 @@ fn push_tens(heap: Global, out: &mut Vec<u8>, digits: &[u8], end: i32) -> Result
         out.extend_from_slice(whole)?;
         out.push(b'.')?;
         out.extend_from_slice(fraction)?;
-    }
-    Ok(())
-}
-
-// Adds a number of zeros.
-fn push_zeros(out: &mut Vec<u8>, count: usize) -> Result<(), AllocError> {
-    for _ in 0..count {
-        out.push(b'0')?;
     }
     Ok(())
 }

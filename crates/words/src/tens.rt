@@ -1,10 +1,17 @@
-ghost use Prim.Native.Nat.{_≤_};
-ghost use lib.IntN.{natAbs};
-ghost use lib.ListN.{length};
+ghost use mathlib.Core.Path.{_≡_};
+ghost use Prim.Native.Nat.{ℕ, _+_, _*_, _/_, _^_, _≤_};
+ghost use lib.IntN.{_*ℤ_, _+ℤ_, natAbs, pos};
+ghost use lib.ListN.{length, take};
+ghost use Rattle.std.specs.Of.Vec.{vec-items};
+ghost use Rattle.std.specs.shelf.Digits.{number};
+ghost use Rattle.codes.specs.Means.{numberOf};
+ghost use Rattle.words.specs.Digits.{written};
+ghost use Rattle.words.specs.Tens.{TenWorth};
 ghost use Rattle.std.specs.Vec.{made};
 use crate::digits::are_digits;
 use crate::digits::digit;
 use crate::digits::digits_value;
+use crate::digits::push_zeros;
 use crate::digits::without_back_zeros;
 use crate::digits::without_front_zeros;
 use crate::fault::WordFault;
@@ -72,34 +79,47 @@ fn read_exponent(behind: &[u8]) -> Result<i32, WordFault>
 fn from_tens(heap: Global, sign: Sign, digits: &[u8], power: i32) -> Result<Decimal, WordFault>
     requires few { ⌜ length (now digits) ≤ 64 ⌝ }
     requires range { ⌜ natAbs power ≤ 150000 ⌝ }
+    ensures { λ r. ⌜ made r (λ d. TenWorth sign (now (digits .entry)) power (numberOf d)) ⌝ }
 {
     let some = without_front_zeros(digits);
-    if some.is_empty() {
+    if some.len() == 0 {
         return Ok(Decimal::Zero);
     }
     let kept = without_back_zeros(some);
-    let end = power + some.len() as i32;
-    let raised = (end + 200_000) as u32;
-    let odd = raised % 2;
-    let pairs = paired(heap, kept, odd == 1)?;
-    Ok(Decimal::new(sign, (raised + odd) as i32 / 2 - 100_000, pairs.as_slice())?)
+    let (exponent, front) = halved(power + some.len() as i32);
+    let pairs = paired(heap, kept, front)?;
+    let decimal = Decimal::new(sign, exponent, pairs.as_slice())?;
+    Ok(decimal)
 }
 
-// Digits in base 100 from digits in base ten, with a zero in front where that is asked for and one behind where their number is then odd.
-fn paired(heap: Global, digits: &[u8], odd: bool) -> Result<Vec<u8>, AllocError> {
+// Half of a number, rounded up, and what was added for that.
+fn halved(n: i32) -> (i32, usize)
+    requires { ⌜ natAbs n ≤ 200000 ⌝ }
+    ensures { λ r. ⌜ (pos 2 *ℤ r .0 ≡ n +ℤ pos (r .1)) × (r .1 ≤ 1) ⌝ }
+{
+    let raised = (n + 200_000) as u32;
+    let odd = raised % 2;
+    (((raised + odd) / 2) as i32 - 100_000, odd as usize)
+}
+
+// Digits in base 100 from digits in base ten, with zeros in front, and one behind where their number is then odd.
+fn paired(heap: Global, digits: &[u8], front: usize) -> Result<Vec<u8>, AllocError>
+    requires { ⌜ front ≤ 1 ⌝ }
+    ensures { λ r. ⌜ made r (λ v. (z : ℕ) × (number 100 (vec-items v) ≡ written (now (digits .entry)) * 10 ^ z) × (2 * length (vec-items v) ≡ front + length (now (digits .entry)) + z)) ⌝ }
+{
     let mut padded = Vec::new(heap);
-    if odd {
-        padded.push(b'0')?;
-    }
+    push_zeros(&mut padded, front)?;
     padded.extend_from_slice(digits)?;
-    if padded.len() % 2 == 1 {
-        padded.push(b'0')?;
-    }
-    pairs(heap, padded.as_slice())
+    let behind = padded.len() % 2;
+    push_zeros(&mut padded, behind)?;
+    let all = pairs(heap, padded.as_slice())?;
+    Ok(all)
 }
 
 // Each two digits of base ten as one of base 100.
-fn pairs(heap: Global, digits: &[u8]) -> Result<Vec<u8>, AllocError> {
+fn pairs(heap: Global, digits: &[u8]) -> Result<Vec<u8>, AllocError>
+    ensures { λ r. ⌜ made r (λ v. (number 100 (vec-items v) ≡ written (take (2 * (length (now (digits .entry)) / 2)) (now (digits .entry)))) × (length (vec-items v) ≡ length (now (digits .entry)) / 2)) ⌝ }
+{
     let mut all = Vec::new(heap);
     for i in 0..digits.len() / 2 {
         all.push(digit(digits[2 * i]) * 10 + digit(digits[2 * i + 1]))?;
