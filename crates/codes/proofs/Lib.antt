@@ -7,3 +7,10 @@ pub mod Scans
 pub mod Puts
 pub mod Marks
 pub mod Plains
+pub mod Seens
+pub mod Readings
+pub mod Mantissas
+pub mod Tables
+pub mod Heads
+pub mod Amounts
+pub mod Dispatch

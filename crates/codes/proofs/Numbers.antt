@@ -122,7 +122,7 @@ sizes-same e f (x ∷ xs) (y ∷ ys) s t h =
     ]
 
 -- zero stands between
-middle : (e : ℤ) → Range e → Parts (21 ∷ []) (leadOf Positive e) × Parts (leadOf Negative e) (21 ∷ [])
+pub middle : (e : ℤ) → Range e → Parts (21 ∷ []) (leadOf Positive e) × Parts (leadOf Negative e) (21 ∷ [])
 middle (negsuc k) r = (inl (omega arith), inl (omega arith))
 middle (pos n) r = at (ltb n 11)
   where
@@ -130,7 +130,7 @@ middle (pos n) r = at (ltb n 11)
     at true = (inl (omega arith), inl (omega arith))
     at false = (inl (omega arith), inl (omega arith))
 
-mantissa-bytes : (ds : List ℕ) → Under ds → Bytes (mantissa ds)
+pub mantissa-bytes : (ds : List ℕ) → Under ds → Bytes (mantissa ds)
 mantissa-bytes [] u = tt
 mantissa-bytes (d ∷ []) u = (omega (arith, u .0), tt)
 mantissa-bytes (d ∷ e ∷ es) u = (omega (arith, u .0), mantissa-bytes (e ∷ es) (u .1))

@@ -8,3 +8,7 @@ pub mod Refusals
 pub mod Making
 pub mod Leads
 pub mod Worked
+pub mod Sources
+pub mod Reading
+pub mod Classes
+pub mod ReadValues

@@ -57,3 +57,9 @@ Even (decimal m) (text t) = ⊥
 Even (text s) null = ⊥
 Even (text s) (decimal n) = ⊥
 Even (text s) (text t) = s ≡ t
+
+-- the bytes of the text in a value, if it is one
+abbrev pub spelledIn : Datum → List ℕ
+spelledIn null = []
+spelledIn (decimal n) = []
+spelledIn (text t) = t

@@ -13,10 +13,14 @@ pub enum KeyFault {
     Exponent,
     // a text with a byte 00, in this column, counted from 1
     ZeroByte(usize),
-    // a plan not of 1 to 8 columns, or a record with another number of values
+    // a plan not of 1 to 8 columns, a record with another number of values, or no such column
     Columns,
     // a key of more than 120 bytes
     KeyLength,
+    // more than 120 bytes to read as a key
+    ReadLength,
+    // bytes that are no key: the first byte at which no key goes on, or their number
+    NoKey(usize),
     // an output too short
     Room,
 }
@@ -32,6 +36,8 @@ pub impl Refusal for KeyFault as KeyRefusal {
             KeyFault::ZeroByte(column) => Refused::new(4, &[*column]),
             KeyFault::Columns => Refused::new(5, &[]),
             KeyFault::KeyLength => Refused::new(6, &[]),
+            KeyFault::ReadLength => Refused::new(6, &[120]),
+            KeyFault::NoKey(at) => Refused::new(7, &[*at]),
             KeyFault::Room => Refused::new(8, &[]),
         }
     }

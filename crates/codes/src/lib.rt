@@ -1,8 +1,11 @@
 // Values, and the column codes that stand for them in keys.
+mod class;
 mod code;
 mod decimal;
 mod fault;
 mod sign;
+mod source;
+mod unread;
 mod value;
 
 pub use code::ColumnCode;
@@ -18,5 +21,7 @@ pub use decimal::Decimal;
 pub use fault::KeyFault;
 pub use fault::KeyRefusal;
 pub use sign::Sign;
+pub use source::Source;
+pub use unread::Unread;
 pub use value::Text;
 pub use value::Value;

@@ -2,3 +2,4 @@ pub mod Records
 pub mod Means
 pub mod Making
 pub mod Writing
+pub mod Reading

@@ -2,6 +2,7 @@
 mod direction;
 mod key;
 mod plan;
+mod reading;
 mod row;
 
 pub use codes::Amount;
@@ -16,4 +17,6 @@ pub use key::MAX_KEY;
 pub use key::key_len;
 pub use key::write_key;
 pub use plan::Plan;
+pub use reading::check_key;
+pub use reading::read_column;
 pub use row::Record;

@@ -1,6 +1,8 @@
 ghost use Rattle.codes.specs.Strings.{flipped};
 use crate::code::ColumnCode;
 use crate::code::complement;
+use crate::source::Source;
+use crate::unread::Unread;
 
 // A value in a column that descends: its code is complemented whole.
 #[derive(Clone, Copy)]
@@ -19,6 +21,8 @@ pub impl<V: ColumnCode> ColumnCode for Descending<V> as DescendingCode {
 
     ghost less = { λ m n. V·ColumnCode .less n m };
 
+    ghost spelled = { V·ColumnCode .spelled };
+
     fn size(&self, texts: &[u8]) -> Option<usize> {
         self.0.size(texts)
     }
@@ -29,5 +33,15 @@ pub impl<V: ColumnCode> ColumnCode for Descending<V> as DescendingCode {
         };
         complement(&mut out[0..n]);
         Some(n)
+    }
+
+    fn read(source: Source, texts: &mut [u8]) -> Result<(Descending<V>, usize), Unread> {
+        match V::read(source.turned(), texts) {
+            Ok((value, n)) => Ok((Descending(value), n)),
+            Err(why) => match why {
+                Unread::NoCode(at) => Err(Unread::NoCode(at)),
+                Unread::NoRoom => Err(Unread::NoRoom),
+            },
+        }
     }
 }

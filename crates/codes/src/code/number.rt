@@ -1,6 +1,6 @@
 ghost use mathlib.Core.Bool.{true};
 ghost use mathlib.Core.Path.{_≡_};
-ghost use mathlib.Core.List.{List, _++_};
+ghost use mathlib.Core.List.{List, [], _++_};
 ghost use Prim.Native.Nat.{ℕ, _+_, _≤_};
 ghost use lib.ListN.{length, take};
 ghost use Rattle.codes.specs.Strings.{flipped};
@@ -16,6 +16,12 @@ use crate::code::put_front;
 use crate::decimal::Amount;
 use crate::decimal::Decimal;
 use crate::sign::Sign;
+use crate::source::Source;
+use crate::unread::Unread;
+
+pub mod reading;
+
+use reading::read_decimal;
 
 // The one or two bytes before a mantissa.
 #[derive(Clone, Copy)]
@@ -134,6 +140,8 @@ pub impl ColumnCode for Decimal as DecimalCode {
 
     ghost less = { Smaller };
 
+    ghost spelled = { λ _. [] };
+
     fn size(&self, _texts: &[u8]) -> Option<usize> {
         match *self {
             Decimal::Zero => Some(1),
@@ -151,6 +159,13 @@ pub impl ColumnCode for Decimal as DecimalCode {
                 };
                 put_amount(lead, a.sign, &a.digits[0..a.count], out)
             }
+        }
+    }
+
+    fn read(source: Source, _texts: &mut [u8]) -> Result<(Decimal, usize), Unread> {
+        match read_decimal(source) {
+            Ok(read) => Ok(read),
+            Err(at) => Err(Unread::NoCode(at)),
         }
     }
 }

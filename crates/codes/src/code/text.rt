@@ -9,6 +9,9 @@ ghost use Rattle.codes.specs.Codes.{textCode};
 ghost use Rattle.codes.specs.Laws.{Put};
 ghost use Rattle.codes.specs.Means.{textOf};
 use crate::code::ColumnCode;
+use crate::code::put_front;
+use crate::source::Source;
+use crate::unread::Unread;
 use crate::value::Text;
 
 // Whether no byte is 00.
@@ -47,6 +50,15 @@ fn put_text(bytes: &[u8], out: &mut [u8]) -> Option<usize>
     Some(n + 2)
 }
 
+impl Text {
+    // Writes the text's bytes to the front of the output and answers their number, or None where there is no room.
+    pub fn put_bytes(self, texts: &[u8], out: &mut [u8]) -> Option<usize>
+        ensures { λ r. ⌜ Put (textOf self (now (texts .entry))) (now (out .entry)) (now (out .exit)) r ⌝ }
+    {
+        put_front(bytes_of(self, texts), out)
+    }
+}
+
 pub impl ColumnCode for Text as TextCode {
     ghost Meaning = { List ℕ };
 
@@ -60,6 +72,8 @@ pub impl ColumnCode for Text as TextCode {
 
     ghost less = { Less };
 
+    ghost spelled = { λ t. t };
+
     fn size(&self, texts: &[u8]) -> Option<usize> {
         let bytes = bytes_of(*self, texts);
         if !has_no_zero(bytes) {
@@ -70,5 +84,22 @@ pub impl ColumnCode for Text as TextCode {
 
     fn put(&self, texts: &[u8], out: &mut [u8]) -> Option<usize> {
         put_text(bytes_of(*self, texts), out)
+    }
+
+    fn read(source: Source, texts: &mut [u8]) -> Result<(Text, usize), Unread> {
+        let Some((first, rest)) = source.split() else {
+            return Err(Unread::NoCode(0));
+        };
+        if first != 0x24 {
+            return Err(Unread::NoCode(0));
+        }
+        let Some(len) = rest.zero() else {
+            return Err(Unread::NoCode(rest.len() + 1));
+        };
+        if len > texts.len() {
+            return Err(Unread::NoRoom);
+        }
+        rest.copy(len, texts);
+        Ok((Text { start: 0, len }, len + 2))
     }
 }
