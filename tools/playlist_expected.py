@@ -165,6 +165,90 @@ def shown(value):
     return ("-" if negative else "") + text
 
 
+class NoMore(Exception):
+    """the byte at which no key goes on, or the end"""
+
+
+def taker(data, start, flip):
+    """Takes bytes from a place on, each of them one that may stand there."""
+    at = start
+
+    def take(allowed):
+        nonlocal at
+        if at == len(data):
+            raise NoMore(at)
+        byte = 255 - data[at] if flip else data[at]
+        if byte not in allowed:
+            raise NoMore(at)
+        at += 1
+        return byte
+
+    return take, lambda: at
+
+
+def read_value(data, start, flip):
+    take, place = taker(data, start, flip)
+    first = take({0x05, 0x15, 0x24, 0x08, 0x14, 0x16, 0x22} | set(range(0x09, 0x14)) | set(range(0x17, 0x22)))
+    if first == 0x05:
+        return ("null",), place()
+    if first == 0x15:
+        return ("decimal", False, None, ()), place()
+    if first == 0x24:
+        text = b""
+        while True:
+            byte = take(range(256))
+            if byte == 0:
+                return ("text", text), place()
+            text += bytes([byte])
+    negative = first < 0x15
+    if first == 0x08:
+        e = 255 - take(range(255 - 240, 255 - 10))
+    elif first == 0x14:
+        e = -take(range(1, 241))
+    elif first == 0x16:
+        e = take(range(255 - 240, 255)) - 255
+    elif first == 0x22:
+        e = take(range(11, 241))
+    else:
+        e = 0x13 - first if negative else first - 0x17
+    digits = []
+    while True:
+        low = 2 if not digits else 1
+        may = [b for b in range(low, 200) if len(digits) < 15 or b % 2 == 0]
+        byte = take({255 - b for b in may} if negative else may)
+        byte = 255 - byte if negative else byte
+        digits.append(byte // 2)
+        if byte % 2 == 0:
+            return ("decimal", negative, e, tuple(digits)), place()
+
+
+def read_key(plan, data):
+    if len(data) > 120:
+        raise No(6, 120)
+    at, values = 0, []
+    try:
+        for letter in plan:
+            value, at = read_value(data, at, letter == ord("d"))
+            values.append(value)
+        if at < len(data):
+            raise NoMore(at)
+    except NoMore as no:
+        raise No(7, no.args[0])
+    return values
+
+
+def pairs_of(word):
+    if not HEX.fullmatch(word):
+        raise Bad
+    return bytes.fromhex(word.decode())
+
+
+def number_of(word, limit):
+    if not re.fullmatch(rb"[0-9]{1,9}", word) or int(word) > limit:
+        raise Bad
+    return int(word)
+
+
 class Session:
     def __init__(self):
         self.day = None
@@ -194,6 +278,21 @@ class Session:
             plan = plan_of(words[1])
             values = [value_of(w) for w in words[2:]]
             self.out.append("ok " + key(plan, values).hex().upper())
+        elif words[0] == b"read" and len(words) == 3:
+            plan = plan_of(words[1])
+            values = read_key(plan, pairs_of(words[2]))
+            self.out.append(" ".join(["ok"] + [shown(v) for v in values]))
+        elif words[0] == b"column" and len(words) == 5:
+            plan = plan_of(words[1])
+            data = pairs_of(words[2])
+            column = number_of(words[3], 999999999)
+            room = number_of(words[4], 1000000)
+            if not 1 <= column <= len(plan):
+                raise No(5)
+            value = read_key(plan, data)[column - 1]
+            if value[0] == "text" and len(value[1]) > room:
+                raise No(8)
+            self.out.append("ok " + shown(value))
         elif words[0] == b"day" and len(words) == 2:
             self.day = (words[1], {})
         else:

@@ -3,6 +3,7 @@ mod command;
 mod day;
 mod failure;
 mod input;
+mod reading;
 mod row;
 mod session;
 

@@ -3,6 +3,8 @@ use crate::command::read_command;
 use crate::day::Day;
 use crate::failure::Failure;
 use crate::failure::FailureFromAlloc;
+use crate::reading::value_of;
+use crate::reading::values_of;
 use keys::KeyFault;
 use keys::KeyRefusal;
 use refusals::RefusedDisplay;
@@ -86,6 +88,14 @@ impl Session {
                 Ok(key) => self.answer_key(key.as_slice()),
                 Err(fault) => self.refuse(fault),
             },
+            Ok(Command::Read(plan, key)) => {
+                let shown = values_of(self.heap, &plan, key.as_slice());
+                self.answer(shown)
+            }
+            Ok(Command::Column(plan, key, column, room)) => {
+                let shown = value_of(self.heap, &plan, key.as_slice(), column, room);
+                self.answer(shown)
+            }
             Ok(Command::Day(plan)) => {
                 self.day = Some(Day::new(self.heap, plan));
                 Ok(())
@@ -100,6 +110,19 @@ impl Session {
         push_hex(&mut self.answers, key)?;
         self.answers.extend_from_slice(b"\n")?;
         Ok(())
+    }
+
+    // `ok` with what stands behind it, or the fault.
+    fn answer(&mut self, shown: Result<Vec<u8>, WordFault>) -> Result<(), Failure> {
+        match shown {
+            Ok(text) => {
+                self.answers.extend_from_slice(b"ok")?;
+                self.answers.extend_from_slice(text.as_slice())?;
+                self.answers.extend_from_slice(b"\n")?;
+                Ok(())
+            }
+            Err(fault) => self.refuse(fault),
+        }
     }
 
     // The rows of a day, then `ok N`.
