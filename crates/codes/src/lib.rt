@@ -1,4 +1,6 @@
 // Values, and the column codes that stand for them in keys.
+#![tactic(auto)]
+
 mod class;
 mod code;
 mod decimal;

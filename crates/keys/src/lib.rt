@@ -1,4 +1,6 @@
 // Plans, records and their keys.
+#![tactic(auto)]
+
 mod comparing;
 mod direction;
 mod key;

@@ -1,4 +1,6 @@
 // Answers cases of keys from standard input, one to a line. The cases and the expected answers come from tools/keys_table.py.
+#![tactic(auto)]
+
 mod reading;
 mod showing;
 

@@ -1,4 +1,6 @@
 // The program: commands from standard input, one to a line, or one from each argument.
+#![tactic(auto)]
+
 mod command;
 mod day;
 mod failure;

@@ -1,4 +1,6 @@
 // Refusals by number: what every fault of every layer can tell of itself.
+#![tactic(auto)]
+
 ghost use Rattle.std.specs.Prelude.{◌≡◌, ◌≤◌, length, take};
 ghost use Rattle.refusals.specs.Answer.{Told};
 ghost use Rattle.refusals.specs.ToldBy.{told_by};

@@ -13,11 +13,11 @@ pub fn write_and_read<S: PageStore>(
     bytes: &[u8],
     buf: &mut [u8],
 ) -> Result<(), StoreFault>
-    ensures answer { answer store_told result ≡ keep_answer (len store.old) (pages store.old) p (length bytes.now) (length buf.old) }
-    ensures keeps { Keeps result p bytes.now (pages store.old) (pages store.new) buf.old buf.new }
-    ensures len { len store.new ≡ len store.old }
-    ensures count { length (pages store.new) ≡ length (pages store.old) }
-    ensures rest { rest store.new ≡ rest store.old }
+    ensures answer { answer store_told result ≡ keep_answer (S.len store.old) (S.pages store.old) p (length bytes.now) (length buf.old) }
+    ensures keeps { Keeps result p bytes.now (S.pages store.old) (S.pages store.new) buf.old buf.new }
+    ensures len { S.len store.new ≡ S.len store.old }
+    ensures count { length (S.pages store.new) ≡ length (S.pages store.old) }
+    ensures rest { S.rest store.new ≡ S.rest store.old }
 {
     if p >= store.page_count() {
         return Err(StoreFault::NoSuchPage(p));

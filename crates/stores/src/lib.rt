@@ -1,4 +1,6 @@
 // Page stores: pages of one length by number, in an image of bytes or behind a seal over any other store.
+#![tactic(auto)]
+
 mod fault;
 mod front;
 mod image;

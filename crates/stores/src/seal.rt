@@ -36,7 +36,7 @@ impl<S> Seal<S> {
 
 // How many pages of a store can be sealed: all, or none where they are shorter than a seal.
 fn sealed_count<S: PageStore>(lower: &S) -> usize
-    ensures { result ≡ length (open_pages (len lower.now) (pages lower.now)) }
+    ensures { result ≡ length (open_pages (S.len lower.now) (S.pages lower.now)) }
 {
     if lower.page_len() < 4 {
         0
@@ -47,8 +47,8 @@ fn sealed_count<S: PageStore>(lower: &S) -> usize
 
 // Reads page p of the store below to the front of `page`, and checks its seal.
 fn open_page<S: PageStore>(lower: &S, p: usize, page: &mut [u8]) -> Result<(), StoreFault>
-    requires { (p < length (open_pages (len lower.now) (pages lower.now))) × (length page.old ≡ 1024) }
-    ensures { Opens p (slice_index_or (open_pages (len lower.now) (pages lower.now)) p damaged) (len lower.now - 4) result page.new }
+    requires { (p < length (open_pages (S.len lower.now) (S.pages lower.now))) × (length page.old ≡ 1024) }
+    ensures { Opens p (slice_index_or (open_pages (S.len lower.now) (S.pages lower.now)) p damaged) (S.len lower.now - 4) result page.new }
 {
     let whole = lower.page_len();
     lower.read(p, page)?;
@@ -60,11 +60,11 @@ fn open_page<S: PageStore>(lower: &S, p: usize, page: &mut [u8]) -> Result<(), S
 
 // Writes the bytes with their seal to page p of the store below.
 fn put_page<S: PageStore>(lower: &mut S, p: usize, bytes: &[u8]) -> Result<(), StoreFault>
-    requires { (p < length (open_pages (len lower.old) (pages lower.old))) × (length bytes.now ≡ len lower.old - 4) }
+    requires { (p < length (open_pages (S.len lower.old) (S.pages lower.old))) × (length bytes.now ≡ S.len lower.old - 4) }
     ensures answer { result ≡ Ok tt }
-    ensures len { len lower.new ≡ len lower.old }
-    ensures pages { open_pages (len lower.new) (pages lower.new) ≡ slice_set (open_pages (len lower.old) (pages lower.old)) p (sound bytes.now) }
-    ensures rest { rest lower.new ≡ rest lower.old }
+    ensures len { S.len lower.new ≡ S.len lower.old }
+    ensures pages { open_pages (S.len lower.new) (S.pages lower.new) ≡ slice_set (open_pages (S.len lower.old) (S.pages lower.old)) p (sound bytes.now) }
+    ensures rest { S.rest lower.new ≡ S.rest lower.old }
 {
     let mut page = [0u8; 1024];
     let sealed = &mut page[0..bytes.len() + 4];

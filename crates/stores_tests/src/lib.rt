@@ -1,4 +1,6 @@
 // Sealed pages compared with the sums that tools/seal_sums.py computes, and stores that are cut too short or damaged.
+#![tactic(auto)]
+
 #[cfg(test)]
 mod tests {
     use std::alloc::Global;

@@ -1,4 +1,6 @@
 // Words of the command line: how a line falls into words, and how values, plans and numbers are read and printed.
+#![tactic(auto)]
+
 mod digits;
 mod fault;
 mod find;

@@ -3,8 +3,8 @@ use Rattle.std.proofs.lemmas.List.{length-take-le}
 use Rattle.stores.specs.Opens.{put_sealed, within}
 use Rattle.stores.proofs.seal.put_page.Goals as goal
 
-pub seal-into-requires : goal.seal-into-requires
-seal-into-requires g c =
+pub seal_into-requires : goal.seal_into-requires
+seal_into-requires g c =
     let low = g.S.PageStore.len c.args.lower.now in
     let ps = g.S.PageStore.pages c.args.lower.now in
     let w = within low ps c.args.p c.requires.0 in let lo = w.long in let lp = w.lower in
@@ -16,5 +16,5 @@ pub returns : goal.returns
 returns g c =
     let low = g.S.PageStore.len c.args.lower.now in
     let ps = g.S.PageStore.pages c.args.lower.now in
-    let w = put_sealed low ps c.args.p c.requires.0 c.args.bytes.now _ _ _ _ c.requires.1 c.seal-into.ensures c.write.ensures.answer c.write.ensures.len c.write.ensures.pages in
+    let w = put_sealed low ps c.args.p c.requires.0 c.args.bytes.now _ _ _ _ c.requires.1 c.seal_into.ensures c.write.ensures.answer c.write.ensures.len c.write.ensures.pages in
     record { answer = w.0; len = c.write.ensures.len; pages = w.1; rest = c.write.ensures.rest }

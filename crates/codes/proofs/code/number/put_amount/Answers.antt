@@ -22,6 +22,6 @@ returns c =
     let b = length_body c.args.sign ds in (
       omega (arith, length-append (take l.len l.bytes) body),
       omega arith,
-      put_two l.bytes body c.args.out.now c.copy-from-slice.new.self c.put-body.new.out l.len (l.len + length ds)
-          (omega arith) (omega arith) (omega arith) c.copy-from-slice.ensures.after c.put-body.ensures,
+      put_two l.bytes body c.args.out.now c.copy_from_slice.new.self c.put_body.new.out l.len (l.len + length ds)
+          (omega arith) (omega arith) (omega arith) c.copy_from_slice.ensures.after c.put_body.ensures,
     )

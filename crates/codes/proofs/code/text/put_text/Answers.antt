@@ -18,5 +18,5 @@ returns c =
     let bs = c.args.bytes.now in (
       omega (arith, length-append bs (0 ∷ [])),
       omega arith,
-      put_framed c.args.out.now bs c.copy-from-slice.new.self (length bs) refl (omega arith) c.copy-from-slice.ensures.after,
+      put_framed c.args.out.now bs c.copy_from_slice.new.self (length bs) refl (omega arith) c.copy_from_slice.ensures.after,
     )

@@ -11,8 +11,8 @@ loop-i-preserved c = (
   copied 0 c.loop-i.digits c.args.from.now c.loop-i.i (omega arith) (omega arith) c.loop-i.invariant.1,
 )
 
-pub invariant-of-result : goal.invariant-of-result
-invariant-of-result c =
+pub invariant_of-result : goal.invariant_of-result
+invariant_of-result c =
     let ds = c.args.from.now in
     let i : c.loop-i.i ≡ length ds = omega arith in
     let e : take (length ds) c.loop-i.digits ≡ ds = rw i at c.loop-i.invariant.1 ∙ take_all (length ds) ds (omega arith) in

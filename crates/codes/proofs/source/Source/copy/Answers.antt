@@ -3,8 +3,8 @@ use Rattle.codes.specs.Sources.{seen, seen_as}
 use Rattle.codes.proofs.Seens.{length_seen, take_seen}
 use Rattle.codes.proofs.source.Source.copy.Goals as goal
 
-pub slice-bounds-copy-seen-end : goal.slice-bounds-copy-seen-end
-slice-bounds-copy-seen-end c =
+pub slice_bounds-copy_seen-end : goal.slice_bounds-copy_seen-end
+slice_bounds-copy_seen-end c =
     let h : c.args.n ≤ length c.args.self.bytes.now = omega (arith, length_seen c.args.self.flipped c.args.self.bytes.now) in search rules
 
 pub returns : goal.returns
@@ -12,5 +12,5 @@ returns c =
     let n = c.args.n in
     let f = c.args.self.flipped in
     let z : n - 0 ≡ n = omega arith in
-    let e : c.copy-seen.new.out ≡ take n (seen c.args.self) = rw z at c.copy-seen.ensures ∙ sym (take_seen f n c.args.self.bytes.now) in
+    let e : c.copy_seen.new.out ≡ take n (seen c.args.self) = rw z at c.copy_seen.ensures ∙ sym (take_seen f n c.args.self.bytes.now) in
     rw z (ap (λ w. w ++ drop n c.args.out.now) e)

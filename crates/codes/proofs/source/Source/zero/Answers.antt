@@ -21,7 +21,7 @@ loop-i-preserved c =
     let e : get_or (seen c.args.self) i 0 ≡ c.see.result = get_or_seen f xs i c.loop-i-test.true ∙ sym c.see.ensures in
     let n = c.if-see-eq0.false in
     let p : 0 < c.see.result = omega arith in
-    All-more (λ b. (0 < b) × (b < 256)) (seen c.args.self) i 0 h c.loop-i.invariant (rw e (p, c.see.type-inv))
+    All-more (λ b. (0 < b) × (b < 256)) (seen c.args.self) i 0 h c.loop-i.invariant (rw e (p, c.see.type_inv))
 
 pub returns : goal.returns
 returns c =

@@ -6,7 +6,7 @@ pub returns : goal.returns
 returns c =
     let s = c.args.self.now in let o = s.area.ok in
     let n = length_cut s.len s.count (vec_items s.area) in
-    let at = c.start-at.result in let len = at + c.page-len.result - at in
-    let w = part_is s.len s.count c.args.p at len (vec_items s.area) (take len (drop at c.as-slice.result.now))
-    (omega arith) (omega arith) c.start-at.ensures.start (omega arith) (ap (λ (a : List ℕ). take len (drop at a)) c.as-slice.ensures.value) in
+    let at = c.start-at.result in let len = at + c.page_len.result - at in
+    let w = part_is s.len s.count c.args.p at len (vec_items s.area) (take len (drop at c.as_slice.result.now))
+    (omega arith) (omega arith) c.start-at.ensures.start (omega arith) (ap (λ (a : List ℕ). take len (drop at a)) c.as_slice.ensures.value) in
     record { page = w.0; sized = w.1 }

@@ -11,8 +11,8 @@ returns c =
     let h : p < s.count = omega (arith, length_cut s.len s.count (vec_items s.area)) in
     let w = ends s.count s.len p h in
     let at : c.start-at.result ≡ p * s.len = c.start-at.ensures.start in
-    let e = with_items_is s.area c.lay.new.area (c.lay.auto.area ∙ c.as-mut-slice.ensures.len) ∙ c.lay.ensures
-    ∙ ap (λ (a : List ℕ). laid a c.start-at.result bytes) c.as-mut-slice.ensures.value
+    let e = with_items_is s.area c.lay.new.area (c.lay.auto.area ∙ c.as_mut_slice.ensures.len) ∙ c.lay.ensures
+    ∙ ap (λ (a : List ℕ). laid a c.start-at.result bytes) c.as_mut_slice.ensures.value
     ∙ ap (λ (j : ℕ). laid (vec_items s.area) j bytes) at in
     record {
       len = refl;

@@ -9,6 +9,6 @@ returns-in-Amount c =
     let f : SFits w32 a.exponent = search rules in
     let k : length a.digits ≡ 16 = search rules in
     let l : length (take a.count a.digits) ≡ a.count = simp length-take (omega (arith, a.full)) in
-    let e = simp to_z-of_z at c.amount-size.ensures in
+    let e = simp to_z-of_z at c.amount_size.ensures in
     rw c.in-Amount.is
     (refl, record { range = a.range; row = a.row; trim = a.trim }, omega (arith, e, l, a.full, lead_short a.exponent, length_amount a.sign a.exponent (take a.count a.digits)))

@@ -6,10 +6,10 @@ use Rattle.codes.specs.Sources.{seen}
 use Rattle.codes.proofs.Heads.{far_stops, far_starts, byte_none, byte_some}
 use Rattle.codes.proofs.code.number.reading.far_head.Goals as goal
 
-pub returns-in-default : goal.returns-in-default
-returns-in-default c =
+pub returns-in_default : goal.returns-in_default
+returns-in_default c =
     far_stops c.args.sign (seen c.args.rest)
-    (byte_none c.args.sign 11 (seen c.args.rest) (seen c.signed.result) c.signed.ensures c.in-default.ensures)
+    (byte_none c.args.sign 11 (seen c.args.rest) (seen c.signed.result) c.signed.ensures c.in_default.ensures)
 
 pub returns : goal.returns
 returns c =

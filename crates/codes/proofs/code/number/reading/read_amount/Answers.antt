@@ -14,8 +14,8 @@ returns-in-Err c = λ x xs e n.
     subst (λ (b : List ℕ). Stops Shaped number_code b c.in-Err.at) (sym e)
     (amount_first x xs n c.in-Err.at (subst (λ (b : List ℕ). Stops InRange head_bytes b c.in-Err.at) e c.in-Err.ensures))
 
-pub overflow-add-result-in-Err-read-body : goal.overflow-add-result-in-Err-read-body
-overflow-add-result-in-Err-read-body c =
+pub overflow_add-result-in-Err-read_body : goal.overflow_add-result-in-Err-read_body
+overflow_add-result-in-Err-read_body c =
     let b = seen c.args.source in
     let n = c.in-Ok.head.len in
     let s = c.in-Ok.ensures in
@@ -25,8 +25,8 @@ overflow-add-result-in-Err-read-body c =
     let m : length b < 2 ^ 64 = omega (arith, length_seen c.args.source.flipped c.args.source.bytes.now, c.ranges.source.0) in
     search rules
 
-pub returns-in-Err-read-body : goal.returns-in-Err-read-body
-returns-in-Err-read-body c = λ x xs e n.
+pub returns-in-Err-read_body : goal.returns-in-Err-read_body
+returns-in-Err-read_body c = λ x xs e n.
     let h = c.in-Ok.head in
     let at = c.in-Err-read-body.at in
     subst (λ (b : List ℕ). Stops Shaped number_code b (h.len + at)) (sym e)

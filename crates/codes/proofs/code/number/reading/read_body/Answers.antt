@@ -12,4 +12,4 @@ read s xs ys (Ok d) t h = (body_starts s xs ys (take d.count d.digits) d.count t
 read s xs ys (Err p) t h = body_stops s xs ys p t h
 
 pub returns : goal.returns
-returns c = read c.args.sign (seen c.args.source) (seen c.signed.result) c.read-mantissa.result c.signed.ensures c.read-mantissa.ensures
+returns c = read c.args.sign (seen c.args.source) (seen c.signed.result) c.read_mantissa.result c.signed.ensures c.read_mantissa.ensures

@@ -8,25 +8,25 @@ use Rattle.codes.proofs.code.number.reading.read_mantissa.Goals as goal
 pub loop-i-init : goal.loop-i-init
 loop-i-init c = (omega arith, refl, onward_start (seen c.args.source) (replicate 16 0))
 
-pub returns-in-default : goal.returns-in-default
-returns-in-default c =
+pub returns-in_default : goal.returns-in_default
+returns-in_default c =
     let b = seen c.args.source in
     onward_stop b c.loop-i.i c.loop-i.digits c.loop-i.invariant.2 (past b c.loop-i.i c.in-default.ensures c.loop-i.invariant.0)
 
-pub returns-then-not-is-mark : goal.returns-then-not-is-mark
-returns-then-not-is-mark c =
+pub returns-then-not-is_mark : goal.returns-then-not-is_mark
+returns-then-not-is_mark c =
     let b = seen c.args.source in
     let i = c.loop-i.i in
     let at = c.in-Some.ensures in
     onward_stop b i c.loop-i.digits c.loop-i.invariant.2
-    (here b i at.0 c.loop-i.invariant.0 (λ m. both_ways c.is-mark.result c.if-not-is-mark.true (c.is-mark.ensures.1 (subst (λ (z : ℕ). Mark i z) (sym at.1) m))))
+    (here b i at.0 c.loop-i.invariant.0 (λ m. both_ways c.is_mark.result c.if-not-is_mark.true (c.is_mark.ensures.1 (subst (λ (z : ℕ). Mark i z) (sym at.1) m))))
 
 pub returns-then-b-eq0 : goal.returns-then-b-eq0
 returns-then-b-eq0 c =
     let b = seen c.args.source in
     let i = c.loop-i.i in
     let at = c.in-Some.ensures in
-    let m = c.is-mark.ensures.0 c.if-not-is-mark.false in
+    let m = c.is_mark.ensures.0 c.if-not-is_mark.false in
     (onward_last b i c.loop-i.digits (c.in-Some.b / 2) c.loop-i.invariant.2 at.0 (omega (arith, c.loop-i.invariant.0, c.loop-i.invariant.1)) (omega (arith, at.1)) c.loop-i.invariant.0 (omega (arith, m.0)) (omega (arith, m.1)), omega (arith, c.loop-i.invariant.0))
 
 pub loop-i-preserved : goal.loop-i-preserved
@@ -35,7 +35,7 @@ loop-i-preserved c =
     let i = c.loop-i.i in
     let at = c.in-Some.ensures in
     let x = c.in-Some.b in
-    let m = c.is-mark.ensures.0 c.if-not-is-mark.false in
+    let m = c.is_mark.ensures.0 c.if-not-is_mark.false in
     let odd = c.if-b-eq0.false in
     let p : x ≡ 2 * (x / 2) + 1 = omega arith in
     let last : i ≡ 15 → ⊥ = λ z. odd (m.3 z) in (

@@ -6,11 +6,11 @@ use Rattle.codes.specs.Sources.{Through, seen}
 use Rattle.codes.proofs.Heads.{small_stops, small_starts, small_as, byte_none, byte_some, negated}
 use Rattle.codes.proofs.code.number.reading.small_head.Goals as goal
 
-pub returns-in-default : goal.returns-in-default
-returns-in-default c =
+pub returns-in_default : goal.returns-in_default
+returns-in_default c =
     let s = other_sign c.args.sign in
     small_stops c.args.sign (seen c.args.rest)
-    (byte_none s 1 (seen c.args.rest) (seen c.signed.result) (rw c.opposite.ensures at c.signed.ensures) c.in-default.ensures)
+    (byte_none s 1 (seen c.args.rest) (seen c.signed.result) (rw c.opposite.ensures at c.signed.ensures) c.in_default.ensures)
 
 pub returns : goal.returns
 returns c =

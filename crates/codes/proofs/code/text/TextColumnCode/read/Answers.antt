@@ -8,21 +8,21 @@ use Rattle.codes.proofs.Dispatch.{text_cut, text_found, text_none, text_wrong}
 use Rattle.codes.proofs.Seens.{length_seen}
 use Rattle.codes.proofs.code.text.TextColumnCode.read.Goals as goal
 
-pub returns-in-default : goal.returns-in-default
-returns-in-default c = (subst (λ (z : List ℕ). Stops TextBytes text_code z 0) (sym c.in-default.ensures) text_none, refl)
+pub returns-in_default : goal.returns-in_default
+returns-in_default c = (subst (λ (z : List ℕ). Stops TextBytes text_code z 0) (sym c.in_default.ensures) text_none, refl)
 
 pub returns-then-first-ne36 : goal.returns-then-first-ne36
 returns-then-first-ne36 c =
     (subst (λ (z : List ℕ). Stops TextBytes text_code z 0) (sym c.in-Some.ensures) (text_wrong c.in-Some.first (seen c.in-Some.rest) c.if-first-ne36.true), refl)
 
-pub overflow-add-result : goal.overflow-add-result
-overflow-add-result c =
+pub overflow_add-result : goal.overflow_add-result
+overflow_add-result c =
     let l : c.len.result + 1 ≤ length (seen c.args.source) = omega (arith, ap length c.in-Some.ensures, c.len.ensures) in
     let m : length (seen c.args.source) < 2 ^ 64 = omega (arith, length_seen c.args.source.flipped c.args.source.bytes.now, c.ranges.source.0) in
     search rules
 
-pub returns-in-default-zero : goal.returns-in-default-zero
-returns-in-default-zero c =
+pub returns-in_default-zero : goal.returns-in_default-zero
+returns-in_default-zero c =
     let e = c.in-Some.ensures ∙ ap (λ z. z ∷ seen c.in-Some.rest) c.if-first-ne36.false in
     let b = seen c.in-Some.rest in (
       subst (λ (z : List ℕ). Stops TextBytes text_code z (c.len.result + 1)) (sym e)

@@ -5,9 +5,9 @@ use Rattle.codes.proofs.code.text.TextColumnCode.size.Goals as goal
 pub returns : goal.returns
 returns c =
     let t = text_of c.args.self.now c.args.texts.now in
-    let e = c.bytes-of-bytes.ensures in
-    let h = c.if-not-has-no-zero.ensures in (
+    let e = c.bytes_of-bytes.ensures in
+    let h = c.if-not-has_no_zero.ensures in (
       sym (rw e at h.test),
       rw e at (h.each refl),
-      omega (arith, ap length e, length-append t (0 ∷ []), c.saturating-add.ensures),
+      omega (arith, ap length e, length-append t (0 ∷ []), c.saturating_add.ensures),
     )
