@@ -1,15 +1,15 @@
 -- Reading a decimal: its head, then its digits.
-use Rattle.std.proofs.Common.{◌≡◌, ℕ, zero, suc, ◌+◌, ◌<◌, ◌≤◌, List, [], ◌∷◌, ◌++◌, length, get_or, take, drop, ℤ, pos, sym, refl, ap, ◌∙◌, subst, inl, inr, arith, length-append}
+use Rattle.std.proofs.Common.{◌≡◌, ℕ, zero, suc, ◌+◌, ◌<◌, List, [], ◌∷◌, ◌++◌, length, get_or, drop, ℤ, sym, refl, ap, subst, inl, inr, arith}
 use Rattle.codes.specs.declared.sign.Sign.{Sign}
 use Rattle.codes.specs.declared.sign.Sign.TheVariants.{Negative, Positive}
 use Rattle.codes.specs.declared.class.Kind.{Kind}
 use Rattle.codes.specs.declared.class.Kind.TheVariants.{Foreign, Null, Zero, Near, Far, Small, Text}
 use Rattle.codes.specs.Strings.{Begins}
-use Rattle.codes.specs.Decimals.{Number, naught, amount, Shaped, Shape, Range}
-use Rattle.codes.specs.Codes.{body_of, lead_of, number_code}
+use Rattle.codes.specs.Decimals.{Number, naught, amount, Shaped}
+use Rattle.codes.specs.Codes.{body_of, number_code}
 use Rattle.codes.specs.Classes.{KindRule}
 use Rattle.codes.specs.Leads.{AreDigits, InRange, head_bytes}
-use Rattle.codes.specs.Reading.{Starts, Begun, Stops}
+use Rattle.codes.specs.Reading.{Starts, Stops}
 use Rattle.codes.proofs.Heads.{head_free, head_full}
 use Rattle.codes.proofs.Readings.{Joint, joint, seq_starts, seq_first, seq_second, head_starts, head_stops}
 

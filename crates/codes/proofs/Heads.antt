@@ -1,5 +1,5 @@
 -- Reading what stands before a mantissa.
-use Rattle.std.proofs.Common.{◌≡◌, ℕ, suc, ◌+◌, ◌-◌, ◌<◌, ◌≤◌, Bool, true, false, cond, ltb, ◌⊎◌, List, [], ◌∷◌, ◌++◌, length, take, drop, ℤ, pos, negsuc, ◌-ℤ◌, nat_abs, sym, refl, ap, ◌∙◌, subst, inl, inr, arith, w32, SFits, to_z, of_z, rules}
+use Rattle.std.proofs.Common.{◌≡◌, ℕ, ◌+◌, ◌-◌, ◌<◌, ◌≤◌, Bool, true, false, cond, ltb, ◌⊎◌, List, [], ◌∷◌, ◌++◌, length, take, ℤ, pos, negsuc, ◌-ℤ◌, sym, refl, ap, ◌∙◌, subst, inl, inr, arith, w32, SFits, to_z, of_z, rules}
 use Rattle.std.proofs.lemmas.Int.{ints, to_z_pos, to_z-of_z}
 use Rattle.std.proofs.lemmas.Bool.{cases_order, ltb-true, ltb-false, lt-ltb, le-ltb}
 use Rattle.codes.specs.declared.sign.Sign.{Sign}
@@ -13,9 +13,9 @@ use Rattle.codes.specs.Classes.{KindRule}
 use Rattle.codes.specs.Leads.{InRange, head_bytes, far_byte, other_sign, small_byte}
 use Rattle.codes.specs.Sources.{Through}
 use Rattle.codes.specs.Reading.{Starts, Begun, Stops}
-use Rattle.codes.specs.Orders.{Parts, parts_begins, parts_begun, parts_trans}
+use Rattle.codes.specs.Orders.{parts_begins, parts_begun, parts_trans}
 use Rattle.codes.specs.Numbers.{exponents, raised_same, middle}
-use Rattle.codes.proofs.Readings.{begins_cons, cons_begins}
+use Rattle.codes.proofs.Readings.{begins_cons}
 
 -- no head begins another
 pub head_free : (a c : Sign × ℤ) → InRange a → InRange c → Begins (head_bytes a) (head_bytes c) → a ≡ c

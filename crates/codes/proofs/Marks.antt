@@ -4,7 +4,7 @@ use Rattle.std.proofs.lemmas.List.{take_more, take_more_set}
 use Rattle.codes.specs.declared.sign.Sign.{Sign}
 use Rattle.codes.specs.declared.sign.Sign.TheVariants.{Negative, Positive}
 use Rattle.codes.specs.Decimals.{amount}
-use Rattle.codes.specs.Codes.{mark, mantissa, lead_of, body_of, number_code}
+use Rattle.codes.specs.Codes.{mantissa, lead_of, body_of, number_code}
 use Rattle.codes.proofs.Puts.{length_flipped}
 
 pub length_mantissa : (ds : List ℕ) → length (mantissa ds) ≡ length ds

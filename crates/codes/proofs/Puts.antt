@@ -1,10 +1,10 @@
 -- Writes to the front of an output.
-use Rattle.std.proofs.Common.{◌≡◌, ℕ, suc, ◌+◌, ◌-◌, ◌<◌, ◌≤◌, min, Bool, List, [], ◌∷◌, ◌++◌, length, get_or, take, drop, set, Some, None, Option, sym, refl, ap, ◌∙◌, inl, inr, append_assoc, append-nil, arith, length-append, length-drop, length-take, drop-cons}
+use Rattle.std.proofs.Common.{◌≡◌, ℕ, suc, ◌+◌, ◌-◌, ◌<◌, ◌≤◌, min, Bool, List, [], ◌∷◌, ◌++◌, length, get_or, take, drop, set, Some, None, Option, sym, refl, ap, ◌∙◌, inl, inr, append_assoc, arith, length-drop, length-take, drop-cons}
 use borrow.Rule.Slice.PartMut.{put_mid, post_of}
 use Rattle.std.proofs.lemmas.List.{take_at, drop_at, length-map, drop-drop, drop_all, take_all, set_at}
 use Rattle.std.proofs.lemmas.Bool.{cases_lt}
 use Rattle.codes.specs.Strings.{flip, flipped}
-use Rattle.codes.specs.Laws.{Measured, Put, counted}
+use Rattle.codes.specs.Laws.{Measured, counted}
 
 pub length_flipped : (xs : List ℕ) → length (flipped xs) ≡ length xs
 length_flipped xs = length-map xs flip

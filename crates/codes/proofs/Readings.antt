@@ -1,8 +1,8 @@
 -- Reading codes from the front of bytes: one code after another, complemented codes, codes told apart by their first byte.
-use Rattle.std.proofs.Common.{◌≡◌, ℕ, zero, suc, ◌+◌, ◌-◌, ◌<◌, ◌≤◌, ◌⊎◌, List, [], ◌∷◌, ◌++◌, map, length, take, drop, sym, refl, ap, ◌∙◌, subst, inl, inr, append_assoc, append-nil, arith, length-append, length-drop, length-take}
-use Rattle.std.proofs.lemmas.List.{take_at, drop_at, drop-drop, take-append-drop, append_cancel_left, map-append, take-map, length-map}
+use Rattle.std.proofs.Common.{◌≡◌, ℕ, zero, suc, ◌+◌, ◌<◌, ◌≤◌, ◌⊎◌, List, [], ◌∷◌, ◌++◌, length, take, drop, sym, refl, ap, ◌∙◌, subst, inl, inr, append_assoc, arith, length-append, length-drop}
+use Rattle.std.proofs.lemmas.List.{drop_at, take-append-drop, append_cancel_left, take-map, length-map}
 use Rattle.codes.specs.Strings.{Begins, Bytes, flip, flipped}
-use Rattle.codes.specs.Reading.{Starts, Begun, Stops}
+use Rattle.codes.specs.Reading.{Starts, Stops}
 use Rattle.codes.specs.Orders.{flipped_twice, flipped_append}
 
 -- beginnings

@@ -1,5 +1,5 @@
 -- What the first byte of a code tells.
-use Rattle.std.specs.Prelude.{◌≡◌, ℕ, ◌+◌, ◌<◌, ◌≤◌, Bool, true, false, cond, not, ◌&&◌, ◌||◌, ◌⊎◌, ◌==◌, ◌≢◌, nat_le, nat_lt}
+use Rattle.std.specs.Prelude.{◌≡◌, ℕ, ◌+◌, ◌<◌, ◌≤◌, Bool, false, cond, not, ◌&&◌, ◌||◌, ◌⊎◌, ◌==◌, ◌≢◌, nat_le, nat_lt}
 use Rattle.codes.specs.declared.sign.Sign.{Sign}
 use Rattle.codes.specs.declared.sign.Sign.TheVariants.{Negative, Positive}
 use Rattle.codes.specs.declared.class.Class.{Class}

@@ -1,12 +1,12 @@
 -- Values of any kind keep the laws.
-use Rattle.std.specs.Prelude.{◌≡◌, ℕ, ◌+◌, ◌-◌, ◌<◌, Bool, true, false, cond, ◌⊎◌, List, [], ◌∷◌, ◌++◌, ℤ, pos, negsuc, nat_lt, refl}
-use Rattle.std.proofs.Common.{sym, ap, ◌∙◌, inl, inr, arith}
+use Rattle.std.specs.Prelude.{◌≡◌, ℕ, ◌+◌, ◌-◌, ◌<◌, Bool, true, false, cond, ◌⊎◌, List, [], ◌∷◌, ◌++◌, pos, negsuc, nat_lt, refl}
+use Rattle.std.proofs.Common.{ap, inl, inr, arith}
 use Rattle.std.proofs.lemmas.Bool.{ltb-true}
 use Rattle.codes.specs.declared.sign.Sign.TheVariants.{Negative, Positive}
 use Rattle.codes.specs.Strings.{Less, Bytes, flipped}
 use Rattle.codes.specs.Decimals.{Number, naught, amount, Smaller}
 use Rattle.codes.specs.Values.{Datum, null, decimal, text, Valid, Earlier}
-use Rattle.codes.specs.Codes.{datum_code, number_code, mantissa, body_of}
+use Rattle.codes.specs.Codes.{datum_code, number_code, mantissa}
 use Rattle.codes.specs.Laws.{Laws}
 use Rattle.codes.specs.Orders.{Parts, laws_from_parts, parts}
 use Rattle.codes.specs.Texts.{text_laws}

@@ -1,5 +1,5 @@
 -- Decimals: their shape, what one is worth, and how two compare.
-use Rattle.std.specs.Prelude.{◌≡◌, ℕ, ◌+◌, ◌-◌, ◌*◌, ◌^◌, ◌<◌, ◌≤◌, List, length, ℤ, pos, negsuc, neg_ℤ, ◌<ℤ◌, slice_index, unsigned_abs}
+use Rattle.std.specs.Prelude.{ℕ, ◌+◌, ◌-◌, ◌*◌, ◌^◌, ◌<◌, ◌≤◌, List, length, ℤ, pos, negsuc, neg_ℤ, ◌<ℤ◌, slice_index, unsigned_abs}
 use Rattle.std.specs.Int.Digits.{number_from_digits}
 use Rattle.codes.specs.declared.sign.Sign.{Sign}
 use Rattle.codes.specs.declared.sign.Sign.TheVariants.{Negative, Positive}

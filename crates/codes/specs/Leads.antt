@@ -7,7 +7,7 @@ use Rattle.codes.specs.declared.code.number.Lead.{Lead}
 use Rattle.codes.specs.declared.code.number.reading.Head.{Head}
 use Rattle.codes.specs.declared.code.number.reading.Digits.{Digits}
 use Rattle.codes.specs.Decimals.{Range, Row, Trim, Shaped}
-use Rattle.codes.specs.Codes.{lead_of, body_of, number_code}
+use Rattle.codes.specs.Codes.{lead_of, number_code}
 use Rattle.codes.specs.Means.{number_of}
 use Rattle.codes.specs.Reading.{Starts, Stops}
 

@@ -1,5 +1,5 @@
 -- What the making of a decimal answers.
-use Rattle.std.specs.Prelude.{ℕ, ◌-◌, Bool, true, false, cond, not, ◌&&◌, List, [], ◌∷◌, length, ℤ, ◌==◌, nat_le, nat_lt, slice_index, unsigned_abs}
+use Rattle.std.specs.Prelude.{ℕ, ◌-◌, Bool, true, cond, not, ◌&&◌, List, [], ◌∷◌, length, ℤ, ◌==◌, nat_le, nat_lt, slice_index, unsigned_abs}
 use Rattle.refusals.specs.Answer.{Answer, gives, refuses}
 use Rattle.codes.specs.declared.sign.Sign.{Sign}
 use Rattle.codes.specs.Decimals.{Number, amount}

@@ -1,7 +1,7 @@
 -- The order of decimal numbers is that of their bytes.
-use Rattle.std.specs.Prelude.{◌≡◌, ℕ, zero, suc, ◌+◌, ◌-◌, ◌*◌, ◌^◌, ◌<◌, ◌≤◌, Bool, true, false, cond, ◌⊎◌, List, [], ◌∷◌, ◌++◌, length, ℤ, pos, negsuc, neg_ℤ, ◌≤ℤ◌, ◌<ℤ◌, nat_lt, slice_index, refl}
-use Rattle.std.proofs.Common.{sym, ap, subst, ◌∙◌, inl, inr, arith}
-use Rattle.std.proofs.Math.Nat.{one-le-pow, pow-le-pow_right}
+use Rattle.std.specs.Prelude.{◌≡◌, ℕ, zero, suc, ◌+◌, ◌-◌, ◌*◌, ◌^◌, ◌<◌, ◌≤◌, Bool, true, false, cond, ◌⊎◌, List, [], ◌∷◌, ◌++◌, length, ℤ, pos, negsuc, nat_lt, slice_index, refl}
+use Rattle.std.proofs.Common.{ap, subst, inl, inr, arith}
+use Rattle.std.proofs.Math.Nat.{pow-le-pow_right}
 use Rattle.std.proofs.lemmas.Bool.{cases_order, ltb-true, ltb-false}
 use Rattle.std.proofs.ByRecursion.{All-from_get_or}
 use Rattle.std.proofs.lemmas.Int.{ints}
@@ -9,9 +9,9 @@ use Rattle.std.specs.Int.Digits.{number_from_digits}
 use Rattle.codes.specs.declared.sign.Sign.TheVariants.{Negative, Positive}
 use Rattle.codes.specs.Strings.{Bytes, flipped}
 use Rattle.codes.specs.Laws.{Laws}
-use Rattle.codes.specs.Decimals.{Number, naught, amount, raised, signed, worth, Smaller, Shape, Range, Shaped}
-use Rattle.codes.specs.Codes.{mark, mantissa, lead_of, number_code}
-use Rattle.codes.specs.Digits.{Under, place, place_lt, place_ge, place_pos, Ends, digits_part, digits_same, number_at}
+use Rattle.codes.specs.Decimals.{Number, naught, amount, raised, Smaller, Shape, Range, Shaped}
+use Rattle.codes.specs.Codes.{mantissa, lead_of, number_code}
+use Rattle.codes.specs.Digits.{Under, place, place_lt, place_ge, Ends, digits_part, digits_same, number_at}
 use Rattle.codes.specs.Orders.{Parts, parts_append, parts_trans, parts_after, parts_flipped, laws_from_parts, bytes_append, flipped_bytes}
 
 -- the exponent's bytes rise with it, above zero, and fall below

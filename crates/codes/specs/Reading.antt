@@ -1,5 +1,5 @@
 -- What reading a code from the front of some bytes answers.
-use Rattle.std.specs.Prelude.{◌≡◌, ℕ, ◌+◌, ◌<◌, ◌≤◌, List, [], ◌∷◌, ◌++◌, length, take, drop, Ok, Err, Result}
+use Rattle.std.specs.Prelude.{◌≡◌, ℕ, ◌+◌, ◌<◌, ◌≤◌, List, ◌++◌, length, take, drop, Ok, Err, Result}
 use Rattle.codes.specs.declared.unread.Unread.{Unread}
 use Rattle.codes.specs.declared.unread.Unread.TheVariants.{NoCode, NoRoom}
 use Rattle.codes.specs.Strings.{Begins}

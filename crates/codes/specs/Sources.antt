@@ -1,5 +1,5 @@
 -- The bytes that a reader sees.
-use Rattle.std.specs.Prelude.{◌≡◌, ℕ, ◌<◌, Bool, true, false, List, [], ◌∷◌, ◌++◌, length, take, Some, None, Option, slice_index}
+use Rattle.std.specs.Prelude.{◌≡◌, ℕ, ◌<◌, Bool, true, false, List, [], ◌∷◌, length, take, Some, None, Option, slice_index}
 use Rattle.codes.specs.declared.sign.Sign.{Sign}
 use Rattle.codes.specs.declared.sign.Sign.TheVariants.{Negative, Positive}
 use Rattle.codes.specs.declared.source.Source.{Source}

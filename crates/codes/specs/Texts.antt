@@ -1,10 +1,10 @@
 -- Texts: bytes, none of which is 0, and then a 0.
-use Rattle.std.specs.Prelude.{◌≡◌, ℕ, ◌-◌, ◌<◌, ◌⊎◌, List, [], ◌∷◌, ◌++◌, refl}
-use Rattle.std.proofs.Common.{sym, ap, subst, ◌∙◌, inl, inr, arith}
+use Rattle.std.specs.Prelude.{◌≡◌, ℕ, ◌<◌, ◌⊎◌, List, [], ◌∷◌, ◌++◌, refl}
+use Rattle.std.proofs.Common.{sym, inl, inr, arith}
 use Rattle.std.proofs.lemmas.Bool.{cases_order}
 use Rattle.std.specs.List.{AllByRecursion as All}
 use Rattle.codes.specs.Strings.{Less, Bytes}
-use Rattle.codes.specs.Values.{TextBytes, no_zero}
+use Rattle.codes.specs.Values.{TextBytes}
 use Rattle.codes.specs.Codes.{text_code}
 use Rattle.codes.specs.Laws.{Laws}
 use Rattle.codes.specs.Orders.{Parts, laws_from_parts, bytes_append}

@@ -4,7 +4,7 @@ use Rattle.std.proofs.Common.{inl, inr, arith}
 use Rattle.std.proofs.lemmas.Bool.Decides.{nat_tests}
 use Rattle.std.proofs.lemmas.Bool.{cases_lt, cases_eq}
 use Rattle.std.proofs.lemmas.List.{take_at, length-set, get_or-set_same, get_or-set_other}
-use Rattle.refusals.specs.Answer.{Answer, gives, refuses, answer}
+use Rattle.refusals.specs.Answer.{gives, refuses, answer}
 use Rattle.stores.specs.declared.fault.StoreFault.{StoreFault}
 use Rattle.stores.specs.declared.fault.StoreFault.TheVariants.{NoSuchPage, WrongLength, Damaged, PageLength}
 use Rattle.stores.specs.Pages.{Page, sound, damaged}

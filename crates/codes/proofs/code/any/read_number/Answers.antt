@@ -1,4 +1,4 @@
-use Rattle.std.proofs.Common.{◌≡◌, ℕ, List, sym, refl, subst}
+use Rattle.std.proofs.Common.{ℕ, List, sym, refl, subst}
 use Rattle.codes.specs.Codes.{datum_code, number_code}
 use Rattle.codes.specs.Decimals.{Shaped}
 use Rattle.codes.specs.Reading.{Stops}

@@ -1,4 +1,4 @@
-use Rattle.std.proofs.Common.{◌≡◌, ◌++◌, take}
+use Rattle.std.proofs.Common.{◌≡◌, take}
 use Rattle.codes.specs.Codes.{mantissa}
 use Rattle.codes.proofs.code.number.put_mantissa.Given as goal
 

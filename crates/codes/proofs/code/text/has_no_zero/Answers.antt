@@ -1,8 +1,8 @@
-use Rattle.std.proofs.Common.{◌≡◌, ◌<◌, true, false, ltb, length, get_or, sym, refl, ◌∙◌, arith}
+use Rattle.std.proofs.Common.{◌≡◌, ◌<◌, true, false, ltb, get_or, sym, refl, ◌∙◌, arith}
 use Rattle.std.proofs.lemmas.Bool.{false≢true, le-ltb, lt-ltb}
 use Rattle.std.proofs.ByRecursion.{All-more}
 use Rattle.std.proofs.lemmas.List.{take_all}
-use Rattle.codes.specs.Values.{no_zero, TextBytes}
+use Rattle.codes.specs.Values.{no_zero}
 use Rattle.codes.proofs.Scans.{stops, goes, ends}
 use Rattle.codes.proofs.code.text.has_no_zero.Goals as goal
 

@@ -1,4 +1,4 @@
-use Rattle.std.proofs.Common.{◌≡◌, length, take, ◌∙◌, arith, length-set, w32, SFits, rules}
+use Rattle.std.proofs.Common.{◌≡◌, length, take, ◌∙◌, arith, length-set, w32, rules}
 use Rattle.std.proofs.lemmas.List.{take_all}
 use Rattle.std.proofs.lemmas.Int.{to_z-of_z}
 use Rattle.codes.proofs.Plains.{plain_shape}
@@ -17,7 +17,7 @@ invariant_of-result c =
     let i : c.loop-i.i ≡ length ds = omega arith in
     let e : take (length ds) c.loop-i.digits ≡ ds = rw i at c.loop-i.invariant.1 ∙ take_all (length ds) ds (omega arith) in
     let s = plain_shape ds c.requires.plain c.requires.few in
-    (omega arith, (search rules, (rw e s.0, (rw e s.1, tt))))
+    record { full = omega arith; range = search rules; row = rw e s.0; trim = rw e s.1 }
 
 pub returns : goal.returns
 returns c =

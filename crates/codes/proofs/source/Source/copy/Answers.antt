@@ -1,5 +1,5 @@
 use Rattle.std.proofs.Common.{◌≡◌, ◌-◌, ◌≤◌, ◌++◌, length, take, drop, sym, ap, ◌∙◌, arith, rules}
-use Rattle.codes.specs.Sources.{seen, seen_as}
+use Rattle.codes.specs.Sources.{seen}
 use Rattle.codes.proofs.Seens.{length_seen, take_seen}
 use Rattle.codes.proofs.source.Source.copy.Goals as goal
 

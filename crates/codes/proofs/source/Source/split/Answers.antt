@@ -1,4 +1,4 @@
-use Rattle.std.proofs.Common.{drop, refl, arith, ltb-false, ltb-true}
+use Rattle.std.proofs.Common.{refl, arith, ltb-false, ltb-true}
 use Rattle.codes.proofs.Seens.{cons_seen, none_seen}
 use Rattle.codes.proofs.source.Source.split.Goals as goal
 

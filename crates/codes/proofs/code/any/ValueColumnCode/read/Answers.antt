@@ -1,4 +1,4 @@
-use Rattle.std.proofs.Common.{◌≡◌, ℕ, List, ◌∷◌, sym, refl, ap, ◌∙◌, subst}
+use Rattle.std.proofs.Common.{ℕ, List, ◌∷◌, sym, refl, ap, ◌∙◌, subst}
 use Rattle.codes.specs.Codes.{datum_code}
 use Rattle.codes.specs.Reading.{Stops}
 use Rattle.codes.specs.Sources.{seen}
@@ -29,6 +29,6 @@ returns-in-Text c =
 
 pub returns-in_default-kind : goal.returns-in_default-kind
 returns-in_default-kind c =
-    let k = c.class-of.result in
-    let o = own_byte k.kind k.sign c.in-Some.first k.exponent c.class-of.ensures in
-    c.read-number.ensures c.in-Some.first (seen c.in-Some.field-0-1) c.in-Some.ensures (o.0 c.in-default-kind.not-Null) (o.1 c.in-default-kind.not-Text) c.args.texts.now
+    let k = c.class_of.result in
+    let o = own_byte k.kind k.sign c.in-Some.first k.exponent c.class_of.ensures in
+    c.read_number.ensures c.in-Some.first (seen c.in-Some.field-0-1) c.in-Some.ensures (o.0 c.in_default-kind.not-Null) (o.1 c.in_default-kind.not-Text) c.args.texts.now

@@ -2,10 +2,10 @@ use Rattle.std.proofs.Common.{sym, ◌∙◌, arith}
 use Rattle.codes.proofs.Puts.{length_flipped, put_flipped}
 use Rattle.codes.proofs.code.descending.DescendingColumnCode.put.Goals as goal
 
-pub returns-in-default : goal.returns-in-default
-returns-in-default g c =
+pub returns-in_default : goal.returns-in_default
+returns-in_default g c =
     let m = g.V.ColumnCode in
-    let h = c.in-default.ensures in
+    let h = c.in_default.ensures in
     (omega (arith, h.0, length_flipped (m.bytes (m.means c.args.self.now.0 c.args.texts.now))), h.1)
 
 pub returns : goal.returns

@@ -1,4 +1,4 @@
-use Rattle.std.proofs.Common.{◌≡◌, ◌≤◌, min, length, take, refl, arith, length-take, w32, SFits, rules}
+use Rattle.std.proofs.Common.{◌≡◌, length, take, refl, arith, length-take, w32, SFits, rules}
 use Rattle.std.proofs.lemmas.Int.{to_z-of_z}
 use Rattle.codes.proofs.Marks.{length_amount, lead_short}
 use Rattle.codes.proofs.code.number.DecimalColumnCode.size.Goals as goal

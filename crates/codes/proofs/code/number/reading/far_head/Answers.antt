@@ -1,4 +1,4 @@
-use Rattle.std.proofs.Common.{◌≡◌, ◌^◌, ◌<◌, ◌∷◌, ℤ, pos, sym, ap, subst, arith, w32, to_z}
+use Rattle.std.proofs.Common.{◌≡◌, ◌∷◌, ℤ, pos, sym, subst, arith, w32, to_z}
 use Rattle.std.proofs.lemmas.Int.{to_z_pos}
 use Rattle.codes.specs.Leads.{InRange, head_bytes, far_byte}
 use Rattle.codes.specs.Reading.{Starts}

@@ -1,10 +1,6 @@
-use Rattle.std.proofs.Common.{◌≡◌, ℕ, List, ◌∷◌, ℤ, pos, sym, refl, ap, ◌∙◌, subst, arith, w32, to_z}
+use Rattle.std.proofs.Common.{◌≡◌, ℕ, List, ◌∷◌, ℤ, pos, sym, ap, ◌∙◌, subst, arith, w32, to_z}
 use Rattle.std.proofs.lemmas.Int.{to_z_pos}
-use Rattle.codes.specs.declared.sign.Sign.{Sign}
-use Rattle.codes.specs.declared.class.Kind.{Kind}
-use Rattle.codes.specs.declared.class.Kind.TheVariants.{Foreign, Null, Zero, Near, Far, Small, Text}
-use Rattle.codes.specs.Classes.{KindRule}
-use Rattle.codes.specs.Leads.{HeadRead, InRange, head_bytes, far_byte, small_byte}
+use Rattle.codes.specs.Leads.{HeadRead, InRange, head_bytes}
 use Rattle.codes.specs.Reading.{Starts, Stops}
 use Rattle.codes.specs.Sources.{seen}
 use Rattle.codes.proofs.Heads.{head_none, near_head, byte_of_far, byte_of_small, other_head}
@@ -36,7 +32,7 @@ returns-in-Small c =
 
 pub returns-in_default-kind : goal.returns-in_default-kind
 returns-in_default-kind c =
-    let k = c.class-of-class.result in
+    let k = c.class_of-class.result in
     subst (λ (b : List ℕ). Stops InRange head_bytes b 0) (sym c.in-Some.ensures)
-    (other_head k.kind k.sign c.in-Some.first k.exponent (seen c.in-Some.rest) c.class-of-class.ensures
-    c.in-default-kind.not-Near c.in-default-kind.not-Far c.in-default-kind.not-Small)
+    (other_head k.kind k.sign c.in-Some.first k.exponent (seen c.in-Some.rest) c.class_of-class.ensures
+    c.in_default-kind.not-Near c.in_default-kind.not-Far c.in_default-kind.not-Small)

@@ -1,4 +1,4 @@
-use Rattle.std.proofs.Common.{◌≡◌, ℕ, ◌+◌, ◌*◌, ◌/◌, ◌%◌, ◌<◌, true, length, get_or, replicate, sym, refl, ◌∙◌, subst, arith, length-set}
+use Rattle.std.proofs.Common.{◌≡◌, ℕ, ◌+◌, ◌*◌, ◌/◌, replicate, sym, refl, ◌∙◌, subst, arith, length-set}
 use Rattle.std.proofs.lemmas.Bool.{both_ways}
 use Rattle.codes.specs.Leads.{Mark}
 use Rattle.codes.specs.Sources.{seen}
@@ -11,7 +11,7 @@ loop-i-init c = (omega arith, refl, onward_start (seen c.args.source) (replicate
 pub returns-in_default : goal.returns-in_default
 returns-in_default c =
     let b = seen c.args.source in
-    onward_stop b c.loop-i.i c.loop-i.digits c.loop-i.invariant.2 (past b c.loop-i.i c.in-default.ensures c.loop-i.invariant.0)
+    onward_stop b c.loop-i.i c.loop-i.digits c.loop-i.invariant.2 (past b c.loop-i.i c.in_default.ensures c.loop-i.invariant.0)
 
 pub returns-then-not-is_mark : goal.returns-then-not-is_mark
 returns-then-not-is_mark c =

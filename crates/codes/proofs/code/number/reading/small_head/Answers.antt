@@ -1,8 +1,7 @@
-use Rattle.std.proofs.Common.{◌≡◌, ◌+◌, ◌-◌, ◌<◌, ◌∷◌, ℤ, pos, negsuc, ◌-ℤ◌, sym, ap, ◌∙◌, subst, arith, w32, SFits, to_z, of_z, rules}
-use Rattle.std.proofs.lemmas.Int.{ints, to_z_pos, to_z-of_z}
+use Rattle.std.proofs.Common.{◌≡◌, ◌+◌, ◌-◌, ◌∷◌, ℤ, sym, ap, ◌∙◌, subst, arith}
 use Rattle.codes.specs.Leads.{InRange, head_bytes, small_byte, other_sign}
 use Rattle.codes.specs.Reading.{Starts}
-use Rattle.codes.specs.Sources.{Through, seen}
+use Rattle.codes.specs.Sources.{seen}
 use Rattle.codes.proofs.Heads.{small_stops, small_starts, small_as, byte_none, byte_some, negated}
 use Rattle.codes.proofs.code.number.reading.small_head.Goals as goal
 

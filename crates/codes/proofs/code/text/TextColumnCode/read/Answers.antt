@@ -1,4 +1,4 @@
-use Rattle.std.proofs.Common.{◌≡◌, ℕ, ◌+◌, ◌^◌, ◌<◌, ◌≤◌, List, ◌∷◌, ◌++◌, length, take, drop, sym, refl, ap, ◌∙◌, subst, arith, length-take, rules}
+use Rattle.std.proofs.Common.{◌≡◌, ℕ, ◌+◌, ◌^◌, ◌<◌, ◌≤◌, List, ◌∷◌, length, take, drop, sym, refl, ap, ◌∙◌, subst, arith, length-take, rules}
 use Rattle.std.proofs.lemmas.List.{take_at}
 use Rattle.codes.specs.Codes.{text_code}
 use Rattle.codes.specs.Reading.{Starts, Stops}
@@ -26,7 +26,7 @@ returns-in_default-zero c =
     let e = c.in-Some.ensures ∙ ap (λ z. z ∷ seen c.in-Some.rest) c.if-first-ne36.false in
     let b = seen c.in-Some.rest in (
       subst (λ (z : List ℕ). Stops TextBytes text_code z (c.len.result + 1)) (sym e)
-          (subst (λ (z : ℕ). Stops TextBytes text_code (0x24 ∷ b) (z + 1)) (sym c.len.ensures) (text_cut b c.in-default-zero.ensures)),
+          (subst (λ (z : ℕ). Stops TextBytes text_code (0x24 ∷ b) (z + 1)) (sym c.len.ensures) (text_cut b c.in_default-zero.ensures)),
       refl,
     )
 

@@ -1,4 +1,4 @@
-use Rattle.std.proofs.Common.{◌≡◌, [], ◌∷◌, length, sym, refl, ap, arith, length-append}
+use Rattle.std.proofs.Common.{[], ◌∷◌, length, sym, refl, ap, arith, length-append}
 use Rattle.codes.specs.Means.{text_of}
 use Rattle.codes.proofs.code.text.TextColumnCode.size.Goals as goal
 
