@@ -1,17 +1,12 @@
 -- What `cmp` answers on byte strings, and what it then says of records.
-use Rattle.std.proofs.Common.{◌≡◌, ℕ, ◌<◌, List, [], ◌∷◌, Ordering, Less as Lower, Equal, Greater, sym, refl, ◌∙◌, subst, inl, inr}
-use Rattle.std.specs.Cmp.Lexicographic.{Lex}
-use Rattle.std.specs.Ordering.{MatchOrdering}
+use Rattle.std.proofs.Common.{◌≡◌, ℕ, ◌<◌, List, [], ◌∷◌, Ordering, Less as Lower, Equal, Greater, sym, refl, subst, inl, inr}
+use Rattle.std.specs.Cmp.{ranks}
+use Rattle.std.specs.Cmp.Lexicographic.{slice_cmp}
+use Rattle.std.specs.Ordering.{MatchOrdering, nat_cmp, ordering_then}
 use Rattle.codes.specs.Strings.{Less}
-use Rattle.codes.specs.Values.{Datum}
-use Rattle.keys.specs.declared.direction.Direction.{Direction}
 use Rattle.keys.specs.Ordering.{ByKeys}
-use Rattle.keys.specs.Reading.{IsKey}
 use Rattle.keys.specs.Records.{key, Precedes, Equals}
 use Rattle.keys.proofs.Rows.{key_order}
-
-abbrev pub ByNumber : ℕ → ℕ → Ordering → Type 0
-ByNumber a b k = MatchOrdering k (a < b) (a ≡ b) (b < a)
 
 abbrev pub Says : List ℕ → List ℕ → Ordering → Type 0
 Says xs ys o = MatchOrdering o (Less xs ys) (xs ≡ ys) (Less ys xs)
@@ -21,17 +16,17 @@ lift x y xs ys Lower p h = inr (p, h)
 lift x y xs ys Equal p h = cc
 lift x y xs ys Greater p h = inr (sym p, h)
 
-first : (x y : ℕ) (xs ys : List ℕ) (o k : Ordering) → ByNumber x y k → MatchOrdering k (o ≡ Lower) (Lex ByNumber xs ys o) (o ≡ Greater) →
-    (Lex ByNumber xs ys o → Says xs ys o) → Says (x ∷ xs) (y ∷ ys) o
+first : (x y : ℕ) (xs ys : List ℕ) (o k : Ordering) → MatchOrdering k (x < y) (x ≡ y) (y < x) → o ≡ ordering_then k (slice_cmp nat_cmp xs ys) →
+    (o ≡ slice_cmp nat_cmp xs ys → Says xs ys o) → Says (x ∷ xs) (y ∷ ys) o
 first x y xs ys o Lower p q again = rw q (inl p)
 first x y xs ys o Equal p q again = lift x y xs ys o p (again q)
 first x y xs ys o Greater p q again = rw q (inl p)
 
-pub says : (xs ys : List ℕ) (o : Ordering) → Lex ByNumber xs ys o → Says xs ys o
+pub says : (xs ys : List ℕ) (o : Ordering) → o ≡ slice_cmp nat_cmp xs ys → Says xs ys o
 says [] [] o h = rw h refl
 says [] (y ∷ ys) o h = rw h tt
 says (x ∷ xs) [] o h = rw h tt
-says (x ∷ xs) (y ∷ ys) o h = first x y xs ys o h.0 h.1 h.2 (says xs ys o)
+says (x ∷ xs) (y ∷ ys) o h = first x y xs ys o (nat_cmp x y) (ranks x y) h (says xs ys o)
 
 -- from the bytes to the records
 pub told : (a b : List ℕ) (o : Ordering) → Says a b o → ByKeys o a b

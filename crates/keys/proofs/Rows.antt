@@ -1,12 +1,11 @@
 -- Keys keep the order of records.
-use Rattle.std.proofs.Common.{◌≡◌, ℕ, ◌+◌, ◌<◌, ◌⊎◌, List, [], ◌∷◌, ◌++◌, length, ◌<ℤ◌, sym, refl, ap, ◌∙◌, subst, inl, inr, append_assoc, append-nil, arith}
+use Rattle.std.proofs.Common.{◌≡◌, ℕ, ◌⊎◌, List, [], ◌∷◌, ◌++◌, refl, ap, subst, inl, inr, arith}
 use Rattle.std.specs.List.{AllByRecursion as All}
 use Rattle.std.proofs.lemmas.Int.{ints}
 use Rattle.keys.specs.declared.direction.Direction.{Direction}
 use Rattle.keys.specs.declared.direction.Direction.TheVariants.{Ascending, Descending}
 use Rattle.codes.specs.Strings.{Less}
-use Rattle.codes.specs.Decimals.{Number, Shaped, worth}
-use Rattle.codes.specs.Values.{Datum, null, decimal, text, Valid, Earlier, Even}
+use Rattle.codes.specs.Values.{Datum, null, decimal, text, Valid, Even}
 use Rattle.keys.specs.Records.{code_in, EarlierIn, key, IsRecord, Precedes, Equals, KeyOrder}
 use Rattle.codes.specs.Orders.{Parts, parts, parts_less, parts_append, parts_after, less_irrefl, less_asym, descending}
 use Rattle.codes.specs.Numbers.{numbers_total}

@@ -1,22 +1,20 @@
 -- Reading a key column by column.
-use Rattle.std.proofs.Common.{◌≡◌, ℕ, zero, suc, ◌+◌, ◌-◌, ◌<◌, ◌≤◌, ◌⊎◌, List, [], ◌∷◌, ◌++◌, length, get_or, take, drop, sym, refl, ap, ◌∙◌, subst, inl, inr, append_assoc, append-nil, arith, length-append, length-drop, length-take, drop-cons}
-use Rattle.std.specs.List.{AllByRecursion as All}
+use Rattle.std.proofs.Common.{◌≡◌, ℕ, suc, ◌+◌, ◌-◌, ◌<◌, ◌≤◌, List, [], ◌∷◌, ◌++◌, length, get_or, take, drop, sym, refl, ap, ◌∙◌, subst, inl, inr, append_assoc, append-nil, arith, length-append, length-drop, drop-cons}
 use Rattle.std.proofs.ByRecursion.{All-append}
 use Rattle.std.proofs.lemmas.List.{take_all, take_at, take-take, take-append-drop, take_more, length-take-le, get_or_at}
 use Rattle.std.proofs.lemmas.Bool.{cases_order}
-use Rattle.codes.specs.Strings.{Begins, Bytes}
+use Rattle.codes.specs.Strings.{Begins}
 use Rattle.codes.specs.Values.{Datum, null, decimal, text, Valid, spelled_in}
 use Rattle.codes.specs.Codes.{datum_code}
-use Rattle.codes.specs.Reading.{Starts, Begun, Stops}
-use Rattle.codes.specs.Orders.{Parts, parts_begins, parts_begun}
+use Rattle.codes.specs.Reading.{Starts, Stops}
+use Rattle.codes.specs.Orders.{parts_begins, parts_begun}
 use Rattle.codes.proofs.Puts.{length_flipped}
 use Rattle.codes.proofs.Readings.{Joint, joint, seq_starts, seq_first, seq_second, begins_length, begins_take, begins_trans, take_behind}
 use Rattle.keys.specs.declared.direction.Direction.{Direction}
 use Rattle.keys.specs.declared.direction.Direction.TheVariants.{Ascending, Descending}
-use Rattle.keys.specs.Records.{code_in, key, IsRecord, Precedes}
+use Rattle.keys.specs.Records.{code_in, key, IsRecord}
 use Rattle.keys.specs.Reading.{BeginsKey, IsKey, NoKeyAt, OnePlace, RoundTrip}
 use Rattle.keys.proofs.Rows.{column_laws, precedes_total, key_parts}
-use Rattle.keys.proofs.Columns.{key_split}
 
 -- no record's key begins another's
 pub key_free : (cs : List Direction) (r s : List Datum) → IsRecord cs r → IsRecord cs s → Begins (key cs r) (key cs s) → r ≡ s

@@ -1,9 +1,8 @@
 -- Plans written as letters.
-use Rattle.std.proofs.Common.{◌≡◌, ℕ, ◌<◌, Bool, true, false, cond, ◌||◌, eqb, List, [], map, length, refl, arith}
+use Rattle.std.proofs.Common.{◌≡◌, ℕ, ◌<◌, Bool, ◌||◌, eqb, List, [], length, arith}
 use Rattle.std.proofs.lemmas.List.{length-map}
 use Rattle.std.proofs.lemmas.Bool.Decides.{nat_tests}
-use Rattle.refusals.specs.Answer.{Answer, refuses}
-use Rattle.keys.specs.declared.direction.Direction.{Direction}
+use Rattle.refusals.specs.Answer.{refuses}
 use Rattle.words.specs.Plans.{plan_word, direction_of}
 
 -- whether a byte is a letter of a plan

@@ -1,7 +1,6 @@
 -- Texts as words, read and printed.
 use Rattle.std.proofs.Common.{◌≡◌, ℕ, ◌+◌, ◌-◌, ◌*◌, ◌/◌, ◌<◌, ◌≤◌, ◌⊎◌, List, [], ◌∷◌, ◌++◌, length, get_or, take, drop, sym, refl, ap, ◌∙◌, subst, inl, inr, append_assoc, arith}
-use Rattle.std.specs.List.{AllByRecursion as All}
-use Rattle.std.proofs.lemmas.List.{take-append-drop, take_all, drop_at, drop_more, drop_all, length-drop, length-take-le, get_or-take, take_rest}
+use Rattle.std.proofs.lemmas.List.{take-append-drop, take_all, drop_at, drop_more, drop_all, length-take-le, get_or-take, take_rest}
 use Rattle.std.proofs.ByRecursion.{All-from_get_or}
 use Rattle.codes.specs.Values.{text}
 use Rattle.words.specs.Hex.{hex, Added}

@@ -1,13 +1,13 @@
 -- What digits in base ten are worth.
-use Rattle.std.proofs.Common.{◌≡◌, ℕ, zero, suc, ◌+◌, ◌*◌, ◌/◌, ◌%◌, ◌^◌, ◌<◌, ◌≤◌, Bool, true, false, cond, leb, List, [], ◌∷◌, ◌++◌, map, length, get_or, take, replicate, ℤ, nat_abs, sym, refl, ap, ◌∙◌, append_assoc, append-nil, mul_assoc, mul_comm, arith}
+use Rattle.std.proofs.Common.{◌≡◌, ℕ, zero, suc, ◌+◌, ◌*◌, ◌/◌, ◌%◌, ◌^◌, ◌<◌, ◌≤◌, List, [], ◌∷◌, ◌++◌, map, length, get_or, take, replicate, ℤ, sym, refl, ap, ◌∙◌, append_assoc, append-nil, mul_assoc, mul_comm, arith}
 use native.Mathlib.Nat.{pow-succ'}
 use Rattle.std.specs.Int.Digits.{number_from_digits}
 use Rattle.std.proofs.lemmas.Int.Digits.{number_push}
 use Rattle.std.proofs.lemmas.List.{map_push, take_all, length-append, length-replicate, length_push}
-use Rattle.refusals.specs.Answer.{Answer, gives, refuses}
+use Rattle.refusals.specs.Answer.{gives}
 use Rattle.codes.specs.declared.sign.Sign.{Sign}
 use Rattle.codes.specs.Decimals.{Number, amount}
-use Rattle.codes.specs.Making.{decimal_answer, plain_digits}
+use Rattle.codes.specs.Making.{decimal_answer}
 use Rattle.words.specs.Digits.{digit_of, written}
 use Rattle.words.proofs.Tenfold.{written_more}
 

@@ -1,6 +1,6 @@
 -- Values as words.
 use Rattle.std.specs.Prelude.{◌≡◌, ℕ, Bool, true, cond, not, ◌&&◌, ◌⊎◌, List, [], ◌∷◌, ◌++◌, ◌==◌, nat_le}
-use Rattle.codes.specs.Decimals.{Number, naught, amount}
+use Rattle.codes.specs.Decimals.{naught, amount}
 use Rattle.codes.specs.Values.{Datum, null, decimal, text}
 use Rattle.words.specs.Hex.{hex}
 use Rattle.words.specs.Lines.{Free}

@@ -31,7 +31,7 @@ pub fn read_value(heap: Global, word: &[u8], texts: &mut Vec<u8>) -> Result<Valu
 fn is_null(word: &[u8]) -> bool
     ensures { Decides result (word.now ≡ null_word) }
 {
-    word == b"null"
+    word == b"null".as_slice()
 }
 
 // A decimal, by its parts where the word has a colon, else in base ten.

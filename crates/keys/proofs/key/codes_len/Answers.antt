@@ -1,14 +1,14 @@
-use Rattle.std.proofs.Common.{◌≡◌, ℕ, eqb, List, length, IfOk, Some, None, Ok, Err, Option, Result, sym, refl, ap, ◌∙◌, arith, MatchResult}
+use Rattle.std.proofs.Common.{◌≡◌, ℕ, List, length, IfOk, Some, None, Ok, Err, Option, Result, sym, refl, ap, ◌∙◌, arith, MatchResult}
 use Rattle.std.specs.List.{AllByRecursion as All}
 use Rattle.std.proofs.lemmas.List.{length-map}
 use Rattle.std.proofs.lemmas.Bool.{eq-eqb, ne_eqb}
-use Rattle.refusals.specs.Answer.{Answer, gives, refuses, answer}
+use Rattle.refusals.specs.Answer.{refuses, answer}
 use Rattle.keys.specs.declared.direction.Direction.{Direction}
 use Rattle.codes.specs.declared.fault.KeyFault.{KeyFault}
 use Rattle.codes.specs.Laws.{counted}
 use Rattle.keys.specs.Means.{data_of}
 use Rattle.codes.specs.Values.{Datum, Valid}
-use Rattle.keys.specs.Records.{IsRecord, key}
+use Rattle.keys.specs.Records.{key}
 use Rattle.codes.specs.Refusals.{key_told}
 use Rattle.codes.specs.Worked.{WorkedKeys}
 use Rattle.keys.specs.Writing.{CodesLen, codes_length, columns_answer, unless_zero, zero_column}
@@ -48,7 +48,7 @@ returns c =
     let r = data_of c.args.row in
     let cs = c.args.directions.now in
     let k : length r ≡ length cs = simp length-map c.if-row-directions.false in record {
-      answer = told cs r k (zero_column 1 r) c.values-len.result (whole cs r k) c.values-len.ensures.answer c.values-len.ensures.valid;
+      answer = told cs r k (zero_column 1 r) c.values_len.result (whole cs r k) c.values_len.ensures.answer c.values_len.ensures.valid;
       order = key_order cs;
       worked = worked;
     }

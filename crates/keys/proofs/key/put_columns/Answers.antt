@@ -1,4 +1,4 @@
-use Rattle.std.proofs.Common.{◌≡◌, ℕ, ◌+◌, ◌-◌, ◌<◌, ◌≤◌, List, ◌++◌, length, get_or, take, drop, sym, refl, ap, ◌∙◌, arith, length-append, length-drop, length-take, rules}
+use Rattle.std.proofs.Common.{◌≡◌, ℕ, ◌+◌, ◌-◌, ◌<◌, ◌≤◌, List, length, get_or, take, drop, sym, ap, arith, length-append, length-drop, length-take, rules}
 use Rattle.std.proofs.lemmas.List.{get_or-map, length-map, take_all}
 use Rattle.keys.specs.declared.direction.Direction.{Direction}
 use Rattle.keys.specs.declared.direction.Direction.TheVariants.{Ascending}
@@ -24,21 +24,21 @@ module _ (cs : List Direction) (r : List Datum) (i : ℕ) (h : i < length cs) (k
         length-append (key (take (i + 1) cs) (take (i + 1) r)) (key (drop (i + 1) cs) (drop (i + 1) r)),
       )
 
-pub offset-bounds-row-i : goal.offset-bounds-row-i
-offset-bounds-row-i c = let k : length c.args.row.values.now ≡ length c.args.directions.now = simp length-map at c.requires.columns.0 in search rules
+pub offset_bounds-row-i : goal.offset_bounds-row-i
+offset_bounds-row-i c = let k : length c.args.row.values.now ≡ length c.args.directions.now = simp length-map at c.requires.columns.0 in search rules
 
 pub bounds-row-i : goal.bounds-row-i
 bounds-row-i c = let k : length c.args.row.values.now ≡ length c.args.directions.now = simp length-map at c.requires.columns.0 in omega arith
 
-pub slice-bounds-put-column-count : goal.slice-bounds-put-column-count
-slice-bounds-put-column-count c =
+pub slice_bounds-put_column-count : goal.slice_bounds-put_column-count
+slice_bounds-put_column-count c =
     let cs = c.args.directions.now in
     let r = data_of c.args.row in
     let i = c.loop-i.i in
     omega (arith, room cs r i c.loop-i-test.true c.requires.columns.0, c.requires.room, c.loop-i.auto.out, c.loop-i.invariant.0)
 
-pub slice-bounds-put-column-start : goal.slice-bounds-put-column-start
-slice-bounds-put-column-start c =
+pub slice_bounds-put_column-start : goal.slice_bounds-put_column-start
+slice_bounds-put_column-start c =
     let cs = c.args.directions.now in
     let r = data_of c.args.row in
     let i = c.loop-i.i in
@@ -55,7 +55,7 @@ unreachable-requires c =
     let k = c.requires.columns.0 in
     let w : i < length c.args.row.values.now = omega (arith, length-map c.args.row.values.now (λ v. datum_of v c.args.row.texts.now)) in
     let is = get_or-map (λ v. datum_of v c.args.row.texts.now) c.args.row.values.now i c.index-row-i.result null w in
-    let h = rw (sym is) at c.in-default.ensures.0 in
+    let h = rw (sym is) at c.in_default.ensures.0 in
     let l : length (take (length c.loop-i.out - at) (drop at c.loop-i.out)) ≡ length c.loop-i.out - at = simp (length-take, length-drop) (omega arith) in
     omega (arith, room cs r i c.loop-i-test.true k, c.requires.room, c.loop-i.auto.out, c.loop-i.invariant.0)
 
@@ -75,7 +75,7 @@ loop-i-preserved c =
     let more = key_more cs r i c.loop-i-test.true k in
     let fits = room cs r i c.loop-i-test.true k in (
       omega (arith, h.0, c.loop-i.invariant.0, ap length more, length-append (key (take i cs) (take i r)) code),
-      rw more (put_next (key (take i cs) (take i r)) code c.args.out.now out c.put-column.new.out at n c.loop-i.invariant.0 c.loop-i.invariant.1 c.loop-i.auto.out h.0 h.2
+      rw more (put_next (key (take i cs) (take i r)) code c.args.out.now out c.put_column.new.out at n c.loop-i.invariant.0 c.loop-i.invariant.1 c.loop-i.auto.out h.0 h.2
           (omega (arith, h.0, fits, c.requires.room, c.loop-i.auto.out, c.loop-i.invariant.0))),
     )
 

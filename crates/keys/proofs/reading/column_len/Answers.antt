@@ -1,5 +1,4 @@
-use Rattle.std.proofs.Common.{◌≡◌, ℕ, ◌≤◌, List, length, replicate, sym, refl, ap, ◌∙◌, subst, arith}
-use lib.ListN.{length-replicate}
+use Rattle.std.proofs.Common.{ℕ, List, length, replicate, ap, subst, arith}
 use Rattle.codes.specs.Means.{datum_of}
 use Rattle.codes.specs.Reading.{Starts, Stops}
 use Rattle.codes.specs.Sources.{seen}
@@ -10,7 +9,7 @@ use Rattle.keys.proofs.reading.column_len.Goals as goal
 
 pub returns-in-Ok : goal.returns-in-Ok
 returns-in-Ok c =
-    let d = datum_of c.in-Ok.field-0-0 c.read-one.new.texts in
+    let d = datum_of c.in-Ok.field-0-0 c.read_one.new.texts in
     (d, subst (λ (z : List ℕ). Starts Valid (code_in c.args.direction) z d c.in-Ok.n) c.new.ensures c.in-Ok.ensures.0)
 
 pub returns-in-NoCode : goal.returns-in-NoCode

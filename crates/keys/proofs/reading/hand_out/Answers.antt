@@ -1,4 +1,4 @@
-use Rattle.std.proofs.Common.{◌≡◌, length, take, drop, sym, ap}
+use Rattle.std.proofs.Common.{drop, sym, ap}
 use Rattle.std.proofs.lemmas.List.{take_at}
 use Rattle.codes.specs.Means.{text_of}
 use Rattle.codes.specs.Values.{text}

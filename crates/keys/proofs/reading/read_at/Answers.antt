@@ -1,4 +1,4 @@
-use Rattle.std.proofs.Common.{◌≡◌, ℕ, ◌+◌, ◌-◌, ◌<◌, ◌≤◌, List, [], ◌∷◌, ◌++◌, length, get_or, take, drop, sym, refl, ap, ◌∙◌, subst, arith, rules}
+use Rattle.std.proofs.Common.{◌≡◌, ℕ, ◌+◌, ◌-◌, ◌<◌, ◌≤◌, List, [], ◌∷◌, ◌++◌, length, get_or, take, drop, sym, subst, arith, rules}
 use Rattle.codes.specs.Means.{datum_of}
 use Rattle.codes.specs.Reading.{Starts, Stops}
 use Rattle.codes.specs.Values.{Datum, Valid}
@@ -19,41 +19,41 @@ module _ (cs : List Direction) (b : List ℕ) (w : ℕ) where
 pub returns-in-Err : goal.returns-in-Err
 returns-in-Err c = first c.args.directions.now c.args.bytes.now c.args.wanted c.in-Err.at c.in-Err.ensures
 
-pub read-behind-requires : goal.read-behind-requires
-read-behind-requires c =
+pub read_behind-requires : goal.read_behind-requires
+read_behind-requires c =
     let s = c.in-Ok.ensures in
     record { short = c.requires.short; within = used (take (c.args.wanted - 0) c.args.directions.now) c.args.bytes.now s.0 c.in-Ok.n s.1; lent = c.requires.lent }
 
-pub returns-in-Err-read-behind : goal.returns-in-Err-read-behind
-returns-in-Err-read-behind c =
+pub returns-in-Err-read_behind : goal.returns-in-Err-read_behind
+returns-in-Err-read_behind c =
     let cs = c.args.directions.now in
     let b = c.args.bytes.now in
     let w = c.args.wanted in
     let s = c.in-Ok.ensures in
-    let t = c.in-Err-read-behind.ensures in
+    let t = c.in-Err-read_behind.ensures in
     subst (λ (z : ℕ). NoKeyAt cs b z) (sym t.1.0)
     (key_stops cs b (c.in-Ok.n + t.0) (column_stops cs w c.requires.column b s.0 c.in-Ok.n t.0 (same cs b w s.0 c.in-Ok.n s.1) t.1.1))
 
-pub slice-bounds-walk-count-3 : goal.slice-bounds-walk-count-3
-slice-bounds-walk-count-3 c =
+pub slice_bounds-walk-count-3 : goal.slice_bounds-walk-count-3
+slice_bounds-walk-count-3 c =
     let cs = c.args.directions.now in
     let b = c.args.bytes.now in
     let w = c.args.wanted in
     let s = c.in-Ok.ensures in
-    let t = c.in-Ok-read-behind.ensures in
-    let d = datum_of c.in-Ok-read-behind.read.0 c.read-behind.new.texts in
-    used (take (w + 1) cs) b (s.0 ++ (d ∷ [])) c.in-Ok-read-behind.read.1 (two_parts cs w c.requires.column b s.0 c.in-Ok.n d t.0 c.in-Ok-read-behind.read.1 s.1 t.1.0 t.1.1)
+    let t = c.in-Ok-read_behind.ensures in
+    let d = datum_of c.in-Ok-read_behind.read.0 c.read_behind.new.texts in
+    used (take (w + 1) cs) b (s.0 ++ (d ∷ [])) c.in-Ok-read_behind.read.1 (two_parts cs w c.requires.column b s.0 c.in-Ok.n d t.0 c.in-Ok-read_behind.read.1 s.1 t.1.0 t.1.1)
 
-pub slice-bounds-walk-start-3 : goal.slice-bounds-walk-start-3
-slice-bounds-walk-start-3 c =
+pub slice_bounds-walk-start-3 : goal.slice_bounds-walk-start-3
+slice_bounds-walk-start-3 c =
     let cs = c.args.directions.now in
     let b = c.args.bytes.now in
     let w = c.args.wanted in
     let s = c.in-Ok.ensures in
-    let t = c.in-Ok-read-behind.ensures in
-    let d = datum_of c.in-Ok-read-behind.read.0 c.read-behind.new.texts in
-    let h : c.in-Ok-read-behind.read.1 ≤ length b =
-    used (take (w + 1) cs) b (s.0 ++ (d ∷ [])) c.in-Ok-read-behind.read.1 (two_parts cs w c.requires.column b s.0 c.in-Ok.n d t.0 c.in-Ok-read-behind.read.1 s.1 t.1.0 t.1.1) in
+    let t = c.in-Ok-read_behind.ensures in
+    let d = datum_of c.in-Ok-read_behind.read.0 c.read_behind.new.texts in
+    let h : c.in-Ok-read_behind.read.1 ≤ length b =
+    used (take (w + 1) cs) b (s.0 ++ (d ∷ [])) c.in-Ok-read_behind.read.1 (two_parts cs w c.requires.column b s.0 c.in-Ok.n d t.0 c.in-Ok-read_behind.read.1 s.1 t.1.0 t.1.1) in
     search rules
 
 -- what the three steps have read together
@@ -66,15 +66,15 @@ module _ (cs : List Direction) (b : List ℕ) (w : ℕ) (h : w < length cs) (r :
   last : (p : ℕ) → Stops (IsRecord (take (length cs - (w + 1)) (drop (w + 1) cs))) (key (take (length cs - (w + 1)) (drop (w + 1) cs))) (take (length b - from) (drop from b)) p → NoKeyAt cs b (from + p)
   last p q = key_stops cs b (from + p) (split_second cs (w + 1) b (r ++ (d ∷ [])) from p (two_parts cs w h b r n d k from s e t) (back_stops cs (w + 1) b from p q))
 
-pub overflow-add-from : goal.overflow-add-from
-overflow-add-from c =
+pub overflow_add-from : goal.overflow_add-from
+overflow_add-from c =
     let cs = c.args.directions.now in
     let b = c.args.bytes.now in
     let s = c.in-Ok.ensures in
-    let t = c.in-Ok-read-behind.ensures in
+    let t = c.in-Ok-read_behind.ensures in
     let u = c.in-Ok-walk.ensures in
-    let d = datum_of c.in-Ok-read-behind.read.0 c.read-behind.new.texts in
-    let from = c.in-Ok-read-behind.read.1 in
+    let d = datum_of c.in-Ok-read_behind.read.0 c.read_behind.new.texts in
+    let from = c.in-Ok-read_behind.read.1 in
     let l = used cs b ((s.0 ++ (d ∷ [])) ++ u.0) (from + c.in-Ok-walk.n)
     (together cs b c.args.wanted c.requires.column s.0 c.in-Ok.n d t.0 from s.1 t.1.0 t.1.1 u.0 c.in-Ok-walk.n u.1) in
     let k : from + c.in-Ok-walk.n ≤ 120 = omega (arith, l, c.requires.short) in
@@ -85,10 +85,10 @@ returns-then-from-n c =
     let cs = c.args.directions.now in
     let b = c.args.bytes.now in
     let s = c.in-Ok.ensures in
-    let t = c.in-Ok-read-behind.ensures in
+    let t = c.in-Ok-read_behind.ensures in
     let u = c.in-Ok-walk.ensures in
-    let d = datum_of c.in-Ok-read-behind.read.0 c.read-behind.new.texts in
-    let from = c.in-Ok-read-behind.read.1 in
+    let d = datum_of c.in-Ok-read_behind.read.0 c.read_behind.new.texts in
+    let from = c.in-Ok-read_behind.read.1 in
     key_behind cs b ((s.0 ++ (d ∷ [])) ++ u.0) (from + c.in-Ok-walk.n)
     (together cs b c.args.wanted c.requires.column s.0 c.in-Ok.n d t.0 from s.1 t.1.0 t.1.1 u.0 c.in-Ok-walk.n u.1) c.if-from-n.true
 
@@ -98,10 +98,10 @@ returns-else-from-n c =
     let b = c.args.bytes.now in
     let w = c.args.wanted in
     let s = c.in-Ok.ensures in
-    let t = c.in-Ok-read-behind.ensures in
+    let t = c.in-Ok-read_behind.ensures in
     let u = c.in-Ok-walk.ensures in
-    let d = datum_of c.in-Ok-read-behind.read.0 c.read-behind.new.texts in
-    let from = c.in-Ok-read-behind.read.1 in
+    let d = datum_of c.in-Ok-read_behind.read.0 c.read_behind.new.texts in
+    let from = c.in-Ok-read_behind.read.1 in
     let r = (s.0 ++ (d ∷ [])) ++ u.0 in
     let q = same cs b w s.0 c.in-Ok.n s.1 in (
       r,
@@ -116,7 +116,7 @@ returns-in-Err-walk c =
     let cs = c.args.directions.now in
     let b = c.args.bytes.now in
     let s = c.in-Ok.ensures in
-    let t = c.in-Ok-read-behind.ensures in
-    let d = datum_of c.in-Ok-read-behind.read.0 c.read-behind.new.texts in
-    let from = c.in-Ok-read-behind.read.1 in
+    let t = c.in-Ok-read_behind.ensures in
+    let d = datum_of c.in-Ok-read_behind.read.0 c.read_behind.new.texts in
+    let from = c.in-Ok-read_behind.read.1 in
     last cs b c.args.wanted c.requires.column s.0 c.in-Ok.n d t.0 from s.1 t.1.0 t.1.1 c.in-Err-walk.at c.in-Err-walk.ensures

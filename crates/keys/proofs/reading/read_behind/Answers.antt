@@ -1,4 +1,4 @@
-use Rattle.std.proofs.Common.{◌≡◌, ℕ, ◌+◌, ◌≤◌, List, length, drop, sym, refl, ap, ◌∙◌, subst, arith, length-drop, rules}
+use Rattle.std.proofs.Common.{ℕ, ◌+◌, ◌≤◌, List, length, refl, ap, ◌∙◌, subst, arith, length-drop, rules}
 use Rattle.codes.specs.Means.{datum_of}
 use Rattle.codes.specs.Reading.{Starts, Stops}
 use Rattle.codes.specs.Sources.{seen}
@@ -7,9 +7,9 @@ use Rattle.keys.specs.Records.{code_in}
 use Rattle.keys.proofs.Walks.{column_used, enough, rest_of}
 use Rattle.keys.proofs.reading.read_behind.Goals as goal
 
-pub overflow-add-result : goal.overflow-add-result
-overflow-add-result c =
-    let d = datum_of c.in-Ok.value c.read-one.new.texts in
+pub overflow_add-result : goal.overflow_add-result
+overflow_add-result c =
+    let d = datum_of c.in-Ok.value c.read_one.new.texts in
     let e = c.new.ensures ∙ rest_of c.args.bytes.now c.args.before in
     let l = column_used c.args.direction (seen c.new.result) d c.in-Ok.n c.in-Ok.ensures.0 in
     let k : c.args.before + c.in-Ok.n ≤ 240 = omega (arith, ap length e, length-drop c.args.before c.args.bytes.now, c.requires.short, c.requires.within) in
@@ -17,7 +17,7 @@ overflow-add-result c =
 
 pub returns-in-Ok : goal.returns-in-Ok
 returns-in-Ok c =
-    let d = datum_of c.in-Ok.value c.read-one.new.texts in
+    let d = datum_of c.in-Ok.value c.read_one.new.texts in
     let e = c.new.ensures ∙ rest_of c.args.bytes.now c.args.before in
     (c.in-Ok.n, (refl, subst (λ (z : List ℕ). Starts Valid (code_in c.args.direction) z d c.in-Ok.n) e c.in-Ok.ensures.0))
 

@@ -1,7 +1,7 @@
-use Rattle.std.proofs.Common.{◌≡◌, ℕ, ◌+◌, ◌-◌, ◌^◌, ◌<◌, ◌≤◌, List, [], ◌∷◌, ◌++◌, length, get_or, take, drop, sym, refl, ap, ◌∙◌, subst, arith, length-drop, rules}
+use Rattle.std.proofs.Common.{◌≡◌, ℕ, ◌+◌, ◌-◌, ◌≤◌, List, [], ◌∷◌, ◌++◌, length, get_or, take, drop, refl, ap, subst, arith, length-drop, rules}
 use Rattle.std.proofs.lemmas.List.{take_all}
 use Rattle.codes.specs.Reading.{Starts, Stops}
-use Rattle.codes.specs.Values.{Datum, Valid}
+use Rattle.codes.specs.Values.{Valid}
 use Rattle.keys.specs.declared.direction.Direction.{Direction}
 use Rattle.keys.specs.declared.direction.Direction.TheVariants.{Ascending}
 use Rattle.keys.specs.Records.{code_in, IsRecord, key}
@@ -15,8 +15,8 @@ rest b at = take_all (length b - at) (drop at b) (simp length-drop (omega arith)
 pub loop-i-init : goal.loop-i-init
 loop-i-init c = (omega arith, ([], ((refl, tt), refl, (c.args.bytes.now, refl))))
 
-pub overflow-add-at : goal.overflow-add-at
-overflow-add-at c =
+pub overflow_add-at : goal.overflow_add-at
+overflow_add-at c =
     let d = c.in-Ok.ensures in
     let l = column_used (get_or c.args.directions.now c.loop-i.i Ascending) _ d.0 c.in-Ok.n d.1 in
     let m = ap length (rest c.args.bytes.now c.loop-i.at) in

@@ -1,18 +1,18 @@
-use Rattle.std.proofs.Common.{◌≡◌, ◌<◌, length, take, ap, ◌∙◌, arith}
+use Rattle.std.proofs.Common.{take, ap, ◌∙◌, arith}
 use Rattle.std.proofs.lemmas.List.{take_all, length-take-le}
 use Rattle.words.specs.Digits.{written}
 use Rattle.words.proofs.Tenfold.{written_lt, written_more}
 use Rattle.words.proofs.digits.value_of.Goals as goal
 
-pub overflow-mul-n : goal.overflow-mul-n
-overflow-mul-n c =
+pub overflow_mul-n : goal.overflow_mul-n
+overflow_mul-n c =
     let ds = c.args.digits.now in
     let i = c.loop-b.b-index in
     let h = written_lt (take i ds) 8 (omega (arith, length-take-le i ds (omega arith))) in
     omega (arith, h, c.loop-b.invariant)
 
-pub overflow-add-n : goal.overflow-add-n
-overflow-add-n c =
+pub overflow_add-n : goal.overflow_add-n
+overflow_add-n c =
     let ds = c.args.digits.now in
     let i = c.loop-b.b-index in
     let h = written_lt (take i ds) 8 (omega (arith, length-take-le i ds (omega arith))) in

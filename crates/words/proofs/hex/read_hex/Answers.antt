@@ -8,7 +8,7 @@ pub loop-i-preserved : goal.loop-i-preserved
 loop-i-preserved c =
     let told = c.in-Some.ensures in
     added_more c.args.word.now (vec_items c.args.out.now) (vec_items c.loop-i.out) (vec_items c.push.new.self) c.loop-i.i c.in-Some.byte
-    c.in-ok-push.ensures.items (omega arith) told.0 told.1 told.2 c.loop-i.invariant
+    c.in_ok-push.ensures.items (omega arith) told.0 told.1 told.2 c.loop-i.invariant
 
 pub returns : goal.returns
 returns c =

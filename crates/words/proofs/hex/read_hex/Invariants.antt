@@ -1,4 +1,4 @@
-use Rattle.std.proofs.Common.{◌≡◌, ◌*◌, take, vec_items}
+use Rattle.std.proofs.Common.{◌*◌, take, vec_items}
 use Rattle.words.specs.Hex.{Added}
 use Rattle.words.proofs.hex.read_hex.Given as goal
 

@@ -8,7 +8,7 @@ loop-i-preserved c =
     let a = c.digit.result in
     let b = c.digit-in-loop-i.result in
     pair_more c.args.digits.now (vec_items c.loop-i.all) (vec_items c.push.new.self) c.loop-i.i a b (a * 10 + b) (omega arith)
-    c.loop-i.invariant.0 c.loop-i.invariant.1 c.digit.ensures.value c.digit-in-loop-i.ensures.value refl c.in-ok-push.ensures.items
+    c.loop-i.invariant.0 c.loop-i.invariant.1 c.digit.ensures.value c.digit-in-loop-i.ensures.value refl c.in_ok-push.ensures.items
 
 pub returns : goal.returns
 returns c =
