@@ -1,6 +1,6 @@
 -- Digits that pass the test of a decimal's making have its shape.
 use Rattle.std.proofs.Common.{◌≡◌, ℕ, ◌-◌, ◌<◌, ◌≤◌, true, false, not, ◌&&◌, eqb, ltb, List, [], ◌∷◌, length, get_or, refl, arith}
-use Rattle.std.specs.List.{AllByRecursion as All}
+use Rattle.std.specs.List.{AllByRecursion}
 use Rattle.std.proofs.lemmas.Bool.{and_parts, eqb-false, ne_eqb, not-true, false≢true}
 use Rattle.std.proofs.ByRecursion.{All-get_or, Decides-by_and}
 use Rattle.std.proofs.lemmas.Bool.Decides.{Decides-ltb}
@@ -18,7 +18,7 @@ plain_not ds h = rw h refl
 pub plain_last : (ds : List ℕ) → centimal ds ≡ true → (get_or ds 0 0 ≡ 0 → ⊥) → not (eqb (get_or ds (length ds - 1) 0) 0) ≡ plain_digits ds
 plain_last ds h k = let e : eqb (get_or ds 0 0) 0 ≡ false = ne_eqb (get_or ds 0 0) 0 k in rw (h, e) refl
 
-centimal_all : (ds : List ℕ) → centimal ds ≡ true → All (λ d. d < 100) ds
+centimal_all : (ds : List ℕ) → centimal ds ≡ true → AllByRecursion (λ d. d < 100) ds
 centimal_all ds = (Decides-by_and (λ d. ltb d 100) (λ d. d < 100) centimal (λ d. Decides-ltb d 100) refl (λ _ _. refl) ds).0
 
 not_zero : (d : ℕ) → not (eqb d 0) ≡ true → 0 < d

@@ -1,6 +1,6 @@
 -- Bytes as a reader sees them.
 use Rattle.std.proofs.Common.{◌≡◌, ℕ, ◌-◌, ◌<◌, ◌≤◌, min, Bool, true, false, not, List, [], ◌∷◌, length, get_or, take, drop, sym, refl, ap, ◌∙◌, inl, inr, arith, length-drop, w8, Fits}
-use Rattle.std.specs.List.{AllByRecursion as All}
+use Rattle.std.specs.List.{AllByRecursion}
 use Rattle.std.proofs.ByRecursion.{All-from_get_or}
 use Rattle.std.proofs.lemmas.List.{get_or-map, length-map, take-map, take_all, drop_all, drop-map}
 use Rattle.std.proofs.lemmas.Bool.{cases_lt}
@@ -8,7 +8,7 @@ use Rattle.codes.specs.Strings.{Bytes, flip, flipped}
 use Rattle.codes.specs.Sources.{see_as, seen_as}
 use Rattle.codes.specs.Orders.{flipped_twice}
 
-pub bytes_from : (xs : List ℕ) → All (λ x. x < 256) xs → Bytes xs
+pub bytes_from : (xs : List ℕ) → AllByRecursion (λ x. x < 256) xs → Bytes xs
 bytes_from [] h = tt
 bytes_from (x ∷ xs) h = (h.0, bytes_from xs h.1)
 

@@ -3,13 +3,13 @@ use Rattle.std.specs.Prelude.{◌≡◌, ℕ, zero, suc, ◌+◌, ◌-◌, ◌*�
 use Rattle.std.proofs.Common.{ap, inl, inr, arith, mul-le-mul_right, suc-mul, add-mul, mul_assoc, mul-pos}
 use Rattle.std.proofs.Math.Nat.{pow-succ', one-le-pow}
 use Rattle.std.proofs.lemmas.Bool.{cases_order}
-use Rattle.std.specs.List.{AllByRecursion as All}
+use Rattle.std.specs.List.{AllByRecursion}
 use Rattle.std.specs.Int.Digits.{number_from_digits, number_from_digits_after}
 use Rattle.codes.specs.Codes.{mark, mantissa}
 use Rattle.codes.specs.Orders.{Parts}
 
 abbrev pub Under : List ℕ → Type 0
-Under ds = All (λ d. d < 100) ds
+Under ds = AllByRecursion (λ d. d < 100) ds
 
 -- the digits' worth where the first stands just below 100^p
 abbrev pub place : List ℕ → ℕ → ℕ

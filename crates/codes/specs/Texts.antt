@@ -2,7 +2,7 @@
 use Rattle.std.specs.Prelude.{◌≡◌, ℕ, ◌<◌, ◌⊎◌, List, [], ◌∷◌, ◌++◌, refl}
 use Rattle.std.proofs.Common.{sym, inl, inr, arith}
 use Rattle.std.proofs.lemmas.Bool.{cases_order}
-use Rattle.std.specs.List.{AllByRecursion as All}
+use Rattle.std.specs.List.{AllByRecursion}
 use Rattle.codes.specs.Strings.{Less, Bytes}
 use Rattle.codes.specs.Values.{TextBytes}
 use Rattle.codes.specs.Codes.{text_code}
@@ -23,7 +23,7 @@ less_total (x ∷ xs) (y ∷ ys) =
     ]
 
 abbrev NoZero : List ℕ → Type 0
-NoZero t = All (λ x. 0 < x) t
+NoZero t = AllByRecursion (λ x. 0 < x) t
 
 ended : (a b : List ℕ) → NoZero a → NoZero b → Less a b → Parts (a ++ (0 ∷ [])) (b ++ (0 ∷ []))
 ended [] [] s t h = absurd h

@@ -1,6 +1,6 @@
 -- Values of any kind and their order: null, then decimals, then texts.
 use Rattle.std.specs.Prelude.{◌≡◌, ℕ, ◌<◌, Bool, true, ◌&&◌, List, [], ◌∷◌, nat_lt}
-use Rattle.std.specs.List.{AllByRecursion as All}
+use Rattle.std.specs.List.{AllByRecursion}
 use Rattle.codes.specs.Strings.{Less}
 use Rattle.codes.specs.Decimals.{Number, Shaped, Smaller, worth}
 
@@ -11,7 +11,7 @@ pub data Datum : Type 0 where
 
 -- a text holds no byte 00
 abbrev pub TextBytes : List ℕ → Type 0
-TextBytes t = All (λ b. (0 < b) × (b < 256)) t
+TextBytes t = AllByRecursion (λ b. (0 < b) × (b < 256)) t
 
 -- what every value of a record is
 abbrev pub Valid : Datum → Type 0

@@ -1,6 +1,6 @@
 -- Worked keys.
 use Rattle.std.specs.Prelude.{◌≡◌, ℕ, ◌*◌, ◌^◌, List, [], ◌∷◌, ℤ, pos, negsuc, neg_ℤ}
-use Rattle.std.specs.List.{AllByRecursion as All}
+use Rattle.std.specs.List.{AllByRecursion}
 use Rattle.codes.specs.declared.sign.Sign.TheVariants.{Negative, Positive}
 use Rattle.codes.specs.Decimals.{Number, naught, amount, worth}
 use Rattle.codes.specs.Codes.{number_code}
@@ -26,4 +26,4 @@ worked_lines =
 
 -- each line holds of the definitions
 abbrev pub WorkedKeys : Type 0
-WorkedKeys = All (λ l. (worth l.is ≡ l.worth_is) × (number_code l.is ≡ l.code_is)) worked_lines
+WorkedKeys = AllByRecursion (λ l. (worth l.is ≡ l.worth_is) × (number_code l.is ≡ l.code_is)) worked_lines

@@ -1,6 +1,6 @@
 -- Keys keep the order of records.
 use Rattle.std.proofs.Common.{◌≡◌, ℕ, ◌⊎◌, List, [], ◌∷◌, ◌++◌, refl, ap, subst, inl, inr, arith}
-use Rattle.std.specs.List.{AllByRecursion as All}
+use Rattle.std.specs.List.{AllByRecursion}
 use Rattle.std.proofs.lemmas.Int.{ints}
 use Rattle.keys.specs.declared.direction.Direction.{Direction}
 use Rattle.keys.specs.declared.direction.Direction.TheVariants.{Ascending, Descending}
@@ -42,7 +42,7 @@ pub equals_refl : (r : List Datum) → Equals r r
 equals_refl [] = tt
 equals_refl (a ∷ r) = (even_refl a, equals_refl r)
 
-pub equals_same : (r s : List Datum) → All Valid r → All Valid s → Equals r s → r ≡ s
+pub equals_same : (r s : List Datum) → AllByRecursion Valid r → AllByRecursion Valid s → Equals r s → r ≡ s
 equals_same [] [] u v e = refl
 equals_same [] (b ∷ s) u v e = absurd e
 equals_same (a ∷ r) [] u v e = absurd e
@@ -70,7 +70,7 @@ precedes_total (c ∷ cs) (a ∷ r) (b ∷ s) h k =
     ]
 
 -- the earlier record's key parts from the other's
-pub key_parts : (cs : List Direction) (r s : List Datum) → All Valid r → All Valid s → Precedes cs r s → Parts (key cs r) (key cs s)
+pub key_parts : (cs : List Direction) (r s : List Datum) → AllByRecursion Valid r → AllByRecursion Valid s → Precedes cs r s → Parts (key cs r) (key cs s)
 key_parts [] r s u v h = absurd h
 key_parts (c ∷ cs) [] s u v h = absurd h
 key_parts (c ∷ cs) (a ∷ r) [] u v h = absurd h

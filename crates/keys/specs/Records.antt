@@ -1,6 +1,6 @@
 -- Records of a plan: their order and their keys. A plan is the directions of its columns.
 use Rattle.std.specs.Prelude.{◌≡◌, ℕ, ◌⊎◌, List, [], ◌∷◌, ◌++◌, length}
-use Rattle.std.specs.List.{AllByRecursion as All}
+use Rattle.std.specs.List.{AllByRecursion}
 use Rattle.keys.specs.declared.direction.Direction.{Direction}
 use Rattle.keys.specs.declared.direction.Direction.TheVariants.{Ascending, Descending}
 use Rattle.codes.specs.Strings.{Less, flipped}
@@ -25,7 +25,7 @@ key (c ∷ cs) (d ∷ r) = code_in c d ++ key cs r
 
 -- a record has a valid value for each column
 abbrev pub IsRecord : List Direction → List Datum → Type 0
-IsRecord cs r = (length r ≡ length cs) × All Valid r
+IsRecord cs r = (length r ≡ length cs) × AllByRecursion Valid r
 
 -- a record, and the length of its key
 abbrev pub HasKey : List Direction → List Datum → ℕ → Type 0

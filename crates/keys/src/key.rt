@@ -1,5 +1,5 @@
 ghost use Rattle.std.specs.Prelude.{◌≡◌, ℕ, ◌≤◌, List, ◌++◌, length, drop, IfOk, MatchResult, OnOk};
-ghost use Rattle.std.specs.List.{AllByRecursion as All};
+ghost use Rattle.std.specs.List.{AllByRecursion};
 ghost use Rattle.refusals.specs.Answer.{answer, refuses};
 ghost use Rattle.codes.specs.Laws.{Put, counted};
 ghost use Rattle.codes.specs.Values.{Valid};
@@ -64,7 +64,7 @@ fn codes_len(directions: &[Direction], row: Record) -> Result<usize, KeyFault>
 fn values_len(row: Record) -> Result<usize, KeyFault>
     requires { length row.values.now ≤ 8 }
     ensures answer { answer key_told result ≡ unless_zero (zero_column 1 (data_of row.entry)) (counted (codes_length (data_of row.entry))) }
-    ensures valid { OnOk result (All Valid (data_of row.entry)) }
+    ensures valid { OnOk result (AllByRecursion Valid (data_of row.entry)) }
 {
     let mut size: usize = 0;
     for i in 0..row.values.len() {

@@ -13,13 +13,22 @@ use failure::Failure;
 use input::{argument, without_newline};
 use session::Session;
 use std::io::{BufRead, BufReader, Write};
+use std::process::ExitCode;
 
-fn main(rt: HostRuntime) -> Result<(), Failure> {
+fn main(rt: HostRuntime) -> ExitCode {
+    match run(&rt) {
+        Ok(()) => ExitCode::SUCCESS,
+        Err(_) => ExitCode::FAILURE,
+    }
+}
+
+// Runs the commands of the arguments where there are any, else those of standard input.
+fn run(rt: &HostRuntime) -> Result<(), Failure> {
     let mut first = Vec::new(rt.alloc());
-    if argument(&rt, 1, &mut first)? {
-        run_arguments(&rt)
+    if argument(rt, 1, &mut first)? {
+        run_arguments(rt)
     } else {
-        run_input(&rt)
+        run_input(rt)
     }
 }
 

@@ -2,7 +2,7 @@ ghost use Rattle.std.specs.Prelude.{◌≡◌, ◌-◌, ◌<◌, length, Ok, sli
 ghost use Rattle.stores.specs.Pages.{sound, damaged};
 ghost use Rattle.stores.specs.Detects.{Detects};
 ghost use Rattle.stores.specs.Opened.{open_pages, Opens};
-ghost use Rattle.stores.specs.Opens as ProofsOpens;
+ghost use Rattle.stores.specs.Opens.{few as few_opened, sized as sized_opened};
 ghost use Rattle.std.proofs.Common.{rules};
 
 use crate::fault::StoreFault;
@@ -81,9 +81,9 @@ impl<S: PageStore> PageStore for Seal<S> {
 
     ghost short = { Prim.search rules };
 
-    ghost few = { λ s. ProofsOpens.few (S.PageStore.len s.lower) (S.PageStore.pages s.lower) (S.PageStore.few s.lower) };
+    ghost few = { λ s. few_opened (S.PageStore.len s.lower) (S.PageStore.pages s.lower) (S.PageStore.few s.lower) };
 
-    ghost sized = { λ s p b e. ProofsOpens.sized (S.PageStore.len s.lower) (S.PageStore.pages s.lower) p b (S.PageStore.sized s.lower p) e };
+    ghost sized = { λ s p b e. sized_opened (S.PageStore.len s.lower) (S.PageStore.pages s.lower) p b (S.PageStore.sized s.lower p) e };
 
     fn page_len(&self) -> usize {
         self.lower.page_len().saturating_sub(4)

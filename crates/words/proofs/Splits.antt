@@ -1,6 +1,6 @@
 -- A line that falls into words.
 use Rattle.std.proofs.Common.{◌≡◌, ℕ, suc, ◌+◌, ◌<◌, ◌≤◌, List, [], ◌∷◌, ◌++◌, length, get_or, take, drop, sym, refl, ap, ◌∙◌, inl, inr, append_assoc, add-zero, arith}
-use Rattle.std.specs.List.{AllByRecursion as All}
+use Rattle.std.specs.List.{AllByRecursion}
 use Rattle.std.proofs.ByRecursion.{All-push}
 use Rattle.std.proofs.lemmas.List.{take-append-drop, take_more, drop_more, length-drop, length-take-le, get_or-drop}
 use Rattle.words.specs.Lines.{IsWord, Front, spaced, Falls}
@@ -13,7 +13,7 @@ lead (w ∷ ws) = w ++ (32 ∷ lead ws)
 
 -- the words so far, each with its space, and the rest
 abbrev pub Sofar : List ℕ → List (List ℕ) → List ℕ → Type 0
-Sofar line ws rest = (lead ws ++ rest ≡ line) × All IsWord ws
+Sofar line ws rest = (lead ws ++ rest ≡ line) × AllByRecursion IsWord ws
 
 lead_push : (ws : List (List ℕ)) (w : List ℕ) → lead (ws ++ (w ∷ [])) ≡ lead ws ++ (w ++ (32 ∷ []))
 lead_push [] w = refl

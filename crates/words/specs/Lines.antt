@@ -1,11 +1,11 @@
 -- Lines and the words that they fall into.
 use Rattle.std.specs.Prelude.{◌≡◌, ℕ, ◌<◌, ◌≤◌, ◌⊎◌, List, [], ◌∷◌, ◌++◌, map, length, take, ◌≢◌, slice_index}
 use Rattle.std.specs.Borrow.{Bor}
-use Rattle.std.specs.List.{AllByRecursion as All}
+use Rattle.std.specs.List.{AllByRecursion}
 
 -- no byte is this one
 abbrev pub Free : ℕ → List ℕ → Type 0
-Free b bytes = All (λ x. x ≢ b) bytes
+Free b bytes = AllByRecursion (λ x. x ≢ b) bytes
 
 -- a word that begins with a mark, ends with the next one and may hold spaces
 abbrev pub Quoted : List ℕ → Type 0
@@ -30,7 +30,7 @@ lent refs = map (λ r. r.now) refs
 
 -- a line falls into these words
 abbrev pub Falls : List ℕ → List (List ℕ) → Type 0
-Falls line ws = (spaced ws ≡ line) × All IsWord ws
+Falls line ws = (spaced ws ≡ line) × AllByRecursion IsWord ws
 
 -- the first n bytes are a word, and a space or nothing stands behind it
 pub record Front (bytes : List ℕ) (n : ℕ) : Type 0 where

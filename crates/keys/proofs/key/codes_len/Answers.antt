@@ -1,5 +1,5 @@
 use Rattle.std.proofs.Common.{◌≡◌, ℕ, List, length, IfOk, Some, None, Ok, Err, Option, Result, sym, refl, ap, ◌∙◌, arith, MatchResult}
-use Rattle.std.specs.List.{AllByRecursion as All}
+use Rattle.std.specs.List.{AllByRecursion}
 use Rattle.std.proofs.lemmas.List.{length-map}
 use Rattle.std.proofs.lemmas.Bool.{eq-eqb, ne_eqb}
 use Rattle.refusals.specs.Answer.{refuses, answer}
@@ -26,7 +26,7 @@ module _ (cs : List Direction) (r : List Datum) (k : length r ≡ length cs) whe
   whole = rw (eq-eqb (length r) (length cs) k) refl
 
   told : (z : Option ℕ) (a : Result ℕ KeyFault) → columns_answer cs r ≡ unless_zero z (length (key cs r)) →
-      answer key_told a ≡ unless_zero z (counted (codes_length r)) → IfOk a (λ _. All Valid r) →
+      answer key_told a ≡ unless_zero z (counted (codes_length r)) → IfOk a (λ _. AllByRecursion Valid r) →
       MatchResult a (λ n. CodesLen cs r n) (λ f. columns_answer cs r ≡ refuses (key_told f).0 (key_told f).1)
   told None (Ok n) w e v =
       let q : n ≡ counted (codes_length r) = cc in
