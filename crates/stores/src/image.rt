@@ -47,6 +47,7 @@ impl Image {
     }
 
     // The area as it is now: the pages in their order, and behind them what no call touched.
+    #[tactic(auto, using(crate::specs::Cuts::parted))]
     pub fn into_area(self) -> Vec<u8>
         ensures area { result.items ≡ image_area self }
         ensures parts { result.items ≡ joined (image_pages self) ++ image_rest self }

@@ -1,4 +1,6 @@
+use Rattle.keys.specs.Means.{directions_of}
+use Rattle.keys.proofs.Walks.{one_place}
 use Rattle.keys.proofs.reading.check_key.Goals as goal
 
-pub returns : goal.returns
-returns c = rw c.directions.ensures.value at c.check_columns.ensures
+pub returns-clause-place : goal.returns-clause-place
+returns-clause-place c = one_place (directions_of c.args.plan.now)
