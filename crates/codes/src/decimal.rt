@@ -1,4 +1,4 @@
-ghost use Rattle.std.specs.Prelude.{ℕ, ◌≤◌, take};
+ghost use Rattle.std.specs.Prelude.{◌≤◌, take};
 ghost use Rattle.codes.specs.Decimals.{Range, Row, Trim};
 
 use crate::sign::Sign;

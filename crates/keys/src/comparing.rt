@@ -1,4 +1,4 @@
-ghost use Rattle.std.specs.Prelude.{◌≡◌, List};
+ghost use Rattle.std.specs.Prelude.{◌≡◌};
 ghost use Rattle.std.specs.Ordering.{MatchOrdering};
 ghost use Rattle.codes.specs.Strings.{Less};
 ghost use Rattle.keys.specs.Ordering.{ByKeys};

@@ -1,10 +1,10 @@
-ghost use Rattle.std.specs.Prelude.{◌≡◌, ℕ, ◌<◌, ◌≤◌, ◌++◌, length, MatchResult};
+ghost use Rattle.std.specs.Prelude.{◌≡◌, ◌<◌, ◌≤◌, length};
 ghost use Rattle.refusals.specs.Answer.{answer};
 ghost use Rattle.codes.specs.Means.{datum_of};
 ghost use Rattle.codes.specs.Reading.{Read};
 ghost use Rattle.codes.specs.Refusals.{key_told};
 ghost use Rattle.codes.specs.Sources.{seen};
-ghost use Rattle.codes.specs.Values.{Valid, null, spelled_in};
+ghost use Rattle.codes.specs.Values.{Valid, spelled_in};
 ghost use Rattle.keys.specs.Means.{directions_of};
 ghost use Rattle.keys.specs.Reading.{Behind, Checked, Column, ColumnRead, FoundAt, HandedOut, OnePlace, RoundTrip, Walked, Whole};
 ghost use Rattle.keys.specs.Records.{code_in};

@@ -42,7 +42,7 @@ impl Day {
     // Adds the rows in the order of their keys, each once, and tells their number.
     pub fn push_rows(self, out: &mut Vec<u8>) -> Result<usize, AllocError> {
         let mut rows = self.rows;
-        rows.sort()?;
+        rows.sort_unstable();
         rows.dedup();
         for row in rows.iter() {
             out.extend_from_slice(b"row ")?;

@@ -1,5 +1,5 @@
 -- What a seal detects.
-use Rattle.std.specs.Prelude.{◌≡◌, ℕ, ◌+◌, ◌-◌, ◌%◌, ◌<◌, ◌≤◌, ◌⊎◌, List, length, take, ◌≢◌, slice_index, slice_index_or, slice_set}
+use Rattle.std.specs.Prelude.{◌≡◌, ℕ, ◌+◌, ◌-◌, ◌%◌, ◌<◌, ◌≤◌, ◌⊎◌, List, length, take, ◌≢◌, slice_index, slice_set}
 use Rattle.stores.specs.Pages.{sound, damaged}
 use Rattle.stores.specs.Opened.{opened}
 
@@ -21,7 +21,7 @@ pub record Missed (page : List ℕ) (k : ℕ) : Type 0 where
   pub border : k + 5 ≡ length page
   pub by257 : (k + 1) % 257 ≡ 0
   pub values : ((slice_index page k ≡ 0) × (slice_index page (k + 1) ≡ 255)) ⊎ ((slice_index page k ≡ 255) × (slice_index page (k + 1) ≡ 0))
-  pub low : slice_index_or page (k + 2) 0 < 255
+  pub low : slice_index page (k + 2) < 255
 
 -- a whole page is damaged once any one byte is changed, of the data or of the sums
 abbrev pub ChangeSeen : Type 0

@@ -1,5 +1,5 @@
 ghost use Rattle.std.specs.Prelude.{◌≡◌, ◌+◌, ◌*◌, ◌/◌, ◌%◌, ◌<◌, ◌++◌, IfSome, OnOk};
-ghost use Rattle.words.specs.Hex.{Added, NoHex, hex, hex_digit};
+ghost use Rattle.words.specs.Hex.{Added, hex, hex_digit};
 ghost use Rattle.words.specs.declared.fault.WordFault.TheVariants.{Form};
 
 use crate::fault::WordFault;

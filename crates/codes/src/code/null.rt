@@ -1,4 +1,4 @@
-ghost use Rattle.std.specs.Prelude.{true, List, []};
+ghost use Rattle.std.specs.Prelude.{true, []};
 ghost use Rattle.codes.specs.Codes.{null_code};
 ghost use Rattle.std.proofs.Common.{rules};
 

@@ -1,5 +1,4 @@
-ghost use Rattle.std.specs.Prelude.{◌≡◌, ℕ, ◌+◌, ◌≤◌, true, List, [], ◌++◌, length, take};
-ghost use Rattle.codes.specs.Strings.{flipped};
+ghost use Rattle.std.specs.Prelude.{◌≡◌, ◌+◌, ◌≤◌, true, [], ◌++◌, length, take};
 ghost use Rattle.codes.specs.Decimals.{Number, Range, Row, Shaped, Smaller};
 ghost use Rattle.codes.specs.Codes.{lead_of, body_of, mantissa, number_code};
 ghost use Rattle.codes.specs.Laws.{Put};

@@ -1,4 +1,4 @@
-ghost use Rattle.std.specs.Prelude.{◌≡◌, ℕ, Bool, true, List, MatchBool};
+ghost use Rattle.std.specs.Prelude.{◌≡◌, ℕ, true, List};
 ghost use Rattle.codes.specs.Strings.{Less};
 ghost use Rattle.codes.specs.Values.{TextBytes, no_zero};
 ghost use Rattle.codes.specs.Codes.{text_code};

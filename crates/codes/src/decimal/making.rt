@@ -1,4 +1,4 @@
-ghost use Rattle.std.specs.Prelude.{◌≡◌, ℕ, ◌≤◌, true, length};
+ghost use Rattle.std.specs.Prelude.{◌≡◌, ◌≤◌, true, length};
 ghost use Rattle.refusals.specs.Answer.{answer_as};
 ghost use Rattle.codes.specs.Decimals.{Range, amount};
 ghost use Rattle.codes.specs.Making.{decimal_answer, plain_digits};

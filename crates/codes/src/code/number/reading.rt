@@ -1,4 +1,4 @@
-ghost use Rattle.std.specs.Prelude.{◌≡◌, ℕ, ◌<◌, ◌≤◌, List, ◌∷◌, length, take, Decides, ◌≢◌};
+ghost use Rattle.std.specs.Prelude.{◌≡◌, ℕ, ◌<◌, ◌≤◌, List, ◌∷◌, take, Decides, ◌≢◌};
 ghost use Rattle.codes.specs.Codes.{body_of, mantissa};
 ghost use Rattle.codes.specs.Decimals.{Range, amount};
 ghost use Rattle.codes.specs.Leads.{AreDigits, DecimalRead, DigitsRead, ExponentByte, HeadRead, Mark, far_byte, other_sign, small_byte};
