@@ -1,4 +1,4 @@
--- Values of any kind keep the laws.
+-- Proofs: values of any kind keep the laws of a column code.
 use Rattle.std.specs.Prelude.{◌≡◌, ℕ, ◌+◌, ◌-◌, ◌<◌, Bool, true, false, cond, ◌⊎◌, List, [], ◌∷◌, ◌++◌, pos, negsuc, nat_lt, refl}
 use Rattle.std.proofs.Common.{ap, inl, inr, arith}
 use Rattle.std.proofs.lemmas.Bool.{ltb-true}

@@ -1,4 +1,4 @@
--- Digits in base 100, their number and their bytes.
+-- Proofs on digits in base 100, their number and their bytes.
 use Rattle.std.specs.Prelude.{◌≡◌, ℕ, zero, suc, ◌+◌, ◌-◌, ◌*◌, ◌^◌, ◌<◌, ◌≤◌, ◌⊎◌, List, [], ◌∷◌, length, refl}
 use Rattle.std.proofs.Common.{ap, inl, inr, arith, mul-le-mul_right, suc-mul, add-mul, mul_assoc, mul-pos}
 use Rattle.std.proofs.Math.Nat.{pow-succ', one-le-pow}

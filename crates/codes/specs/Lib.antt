@@ -15,5 +15,6 @@ pub mod ReadValues
 pub mod Data
 pub mod Orders
 pub mod Texts
+pub mod Nulls
 pub mod Numbers
 pub mod Digits

@@ -1,4 +1,4 @@
--- The order of byte strings. Two strings part where they differ at a place that both have: parting survives whatever follows, and the complement turns it.
+-- Proofs on the order of byte strings. Two strings part where they differ at a place that both have: parting survives whatever follows, and the complement turns it.
 use Rattle.std.specs.Prelude.{◌≡◌, ℕ, ◌-◌, ◌<◌, ◌⊎◌, List, [], ◌∷◌, ◌++◌, refl}
 use Rattle.std.proofs.Common.{ap, subst, ◌∙◌, append-nil, inl, inr, arith}
 use Rattle.codes.specs.Strings.{Less, Begins, Bytes, flipped}

@@ -1,4 +1,4 @@
--- Texts: bytes, none of which is 0, and then a 0.
+-- Proofs on texts: bytes, none of which is 0, and then a 0.
 use Rattle.std.specs.Prelude.{◌≡◌, ℕ, ◌<◌, ◌⊎◌, List, [], ◌∷◌, ◌++◌, refl}
 use Rattle.std.proofs.Common.{sym, inl, inr, arith}
 use Rattle.std.proofs.lemmas.Bool.{cases_order}

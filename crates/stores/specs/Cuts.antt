@@ -1,4 +1,4 @@
--- What an area cut into pages holds, and what a page written into it changes.
+-- Proofs: what an area cut into pages holds, and what a page written into it changes.
 use Rattle.std.specs.Prelude.{◌≡◌, ℕ, zero, suc, ◌+◌, ◌*◌, ◌<◌, ◌≤◌, List, ◌++◌, map, length, get_or, take, drop, slice_index_or, slice_set, refl}
 use Rattle.std.proofs.Common.{sym, ap, ◌∙◌, inl, inr, arith, mul-le-mul_right, suc-mul, zero-mul, add-mul, rules, take-add}
 use Rattle.std.specs.List.{range_with_len}

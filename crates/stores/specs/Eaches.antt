@@ -1,4 +1,4 @@
--- A layer's pages, each by a function of its number and the page below.
+-- Proofs on a layer's pages, each by a function of its number and the page below.
 use Rattle.std.specs.Prelude.{◌≡◌, ℕ, ◌<◌, List, length, get_or, slice_index_or, slice_set}
 use Rattle.std.proofs.Common.{sym, ap, ◌∙◌, inl, inr, arith}
 use Rattle.std.proofs.lemmas.Bool.{cases_eq}

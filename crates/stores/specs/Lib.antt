@@ -8,6 +8,7 @@ pub mod Opened
 pub mod Keeping
 pub mod Detects
 pub mod Cuts
+pub mod Images
 pub mod Opens
 pub mod Steps
 pub mod Eaches

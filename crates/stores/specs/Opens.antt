@@ -1,4 +1,4 @@
--- The pages of a sealed store, from the answers of the store below.
+-- Proofs on the pages of a sealed store, from the answers of the store below.
 use Rattle.std.specs.Prelude.{◌≡◌, ℕ, ◌-◌, ◌<◌, ◌≤◌, true, false, List, ◌++◌, length, get_or, take, set, Ok, Err, Result, slice_index_or, slice_set}
 use Rattle.std.proofs.Common.{sym, ap, ◌∙◌, inl, inr, arith}
 use Rattle.std.proofs.lemmas.Bool.Decides.{nat_tests}
@@ -83,6 +83,9 @@ module _ (low : ℕ) (pages : List Page) (p : ℕ) (h : p < length (open_pages l
       )
 
 -- the laws of a page store
+pub short : (low : ℕ) → low ≤ 1024 → low - 4 ≤ 1024
+short low h = omega arith
+
 pub few : (low : ℕ) (pages : List Page) → length pages ≤ 65535 → length (open_pages low pages) ≤ 65535
 few low pages h = grind (arith, nat_tests, length_each)
 

@@ -1,4 +1,4 @@
--- A sealed page: what its sums are, and what the seal shows of it.
+-- Proofs on a sealed page: what its sums are, and what the seal shows of it.
 use Rattle.std.specs.Prelude.{◌≡◌, ℕ, ◌+◌, ◌-◌, ◌/◌, ◌%◌, ◌<◌, true, false, List, [], ◌∷◌, ◌++◌, length, take, slice_index, refl}
 use Rattle.std.proofs.Common.{ap, ◌∙◌, arith, rules}
 use borrow.Rule.Slice.PartMut.{put_mid}

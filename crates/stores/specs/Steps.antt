@@ -1,4 +1,4 @@
--- For those who call a page store: what each answer of `read` and `write` tells, and which answer must come.
+-- Proofs for those who call a page store: what each answer of `read` and `write` tells, and which answer must come.
 use Rattle.std.specs.Prelude.{◌≡◌, ℕ, ◌<◌, ◌≤◌, ◌⊎◌, List, [], ◌∷◌, ◌++◌, length, get_or, take, drop, Ok, Err, Result, ◌≢◌, slice_index_or, slice_set, refl}
 use Rattle.std.proofs.Common.{inl, inr, arith}
 use Rattle.std.proofs.lemmas.Bool.Decides.{nat_tests}

@@ -4,9 +4,7 @@ ghost use Rattle.stores.specs.Pages.{sound, damaged};
 ghost use Rattle.stores.specs.Faults.{store_told};
 ghost use Rattle.stores.specs.Areas.{allowed, cut, joined, laid, length_answer, kept_len, kept_count};
 ghost use Rattle.stores.specs.ImageOf.{image_len, image_count, image_pages, image_area, image_rest};
-ghost use Rattle.std.proofs.Common.{arith, rules};
-ghost use Rattle.stores.specs.Cuts.{length_cut};
-ghost use Rattle.stores.specs.Cuts;
+ghost use Rattle.stores.specs.Images.{image_short, image_few, image_sized};
 
 use crate::fault::StoreFault;
 use crate::front::put_front;
@@ -138,11 +136,11 @@ impl PageStore for Image {
 
     ghost rest = { image_rest };
 
-    ghost short = { first_of (Prim.search rules, Prim.grind (arith, Self.row.coded.inj)) };
+    ghost short = { image_short };
 
-    ghost few = { λ s. omega (arith, length_cut s.len s.count s.area.items) };
+    ghost few = { image_few };
 
-    ghost sized = { λ s p b e. let v = s.area.ok in Cuts.sized s.len s.count s.area.items p b (omega arith) e };
+    ghost sized = { image_sized };
 
     fn page_len(&self) -> usize {
         self.len

@@ -2,8 +2,7 @@ ghost use Rattle.std.specs.Prelude.{◌≡◌, ◌-◌, ◌<◌, length, Ok, sli
 ghost use Rattle.stores.specs.Pages.{sound, damaged};
 ghost use Rattle.stores.specs.Detects.{Detects};
 ghost use Rattle.stores.specs.Opened.{open_pages, Opens};
-ghost use Rattle.stores.specs.Opens.{few as few_opened, sized as sized_opened};
-ghost use Rattle.std.proofs.Common.{rules};
+ghost use Rattle.stores.specs.Opens.{short as short_opened, few as few_opened, sized as sized_opened};
 
 use crate::fault::StoreFault;
 use crate::front::put_front;
@@ -79,7 +78,7 @@ impl<S: PageStore> PageStore for Seal<S> {
 
     ghost rest = { λ s. S.PageStore.rest s.lower };
 
-    ghost short = { Prim.search rules };
+    ghost short = { λ s. short_opened (S.PageStore.len s.lower) (S.PageStore.short s.lower) };
 
     ghost few = { λ s. few_opened (S.PageStore.len s.lower) (S.PageStore.pages s.lower) (S.PageStore.few s.lower) };
 

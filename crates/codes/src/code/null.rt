@@ -1,6 +1,6 @@
 ghost use Rattle.std.specs.Prelude.{true, []};
 ghost use Rattle.codes.specs.Codes.{null_code};
-ghost use Rattle.std.proofs.Common.{rules};
+ghost use Rattle.codes.specs.Nulls.{null_laws};
 
 use crate::code::{ColumnCode, put_front};
 use crate::source::Source;
@@ -25,7 +25,7 @@ impl ColumnCode for Null {
 
     ghost spelled = { λ _. [] };
 
-    ghost lawful = { Prim.search rules };
+    ghost lawful = { null_laws };
 
     fn size(&self, _texts: &[u8]) -> Option<usize> {
         Some(1)
