@@ -1,8 +1,8 @@
 -- What a reported refusal says.
-use Rattle.std.specs.Prelude.{take}
+use Rattle.inline.specs.Listed.{listed}
 use Rattle.refusals.specs.Answer.{Told}
 use Rattle.refusals.specs.declared.refused.Refused.{Refused}
 
 -- its number, and the values beside it
 abbrev pub told_by : Refused → Told
-told_by r = (r.number, take r.count r.beside)
+told_by r = (r.number, listed r.beside)

@@ -1,10 +1,11 @@
 // Refusals by number: what every fault of every layer can tell of itself.
 #![tactic(auto)]
 
-ghost use Rattle.std.specs.Prelude.{◌≡◌, ◌≤◌, length, take};
+ghost use Rattle.std.specs.Prelude.{◌≡◌, take};
 ghost use Rattle.refusals.specs.Answer.{Told};
 ghost use Rattle.refusals.specs.ToldBy.{told_by};
 
+use inline::Inline;
 use std::fmt;
 
 mod refused;
@@ -25,26 +26,11 @@ impl Refused {
     pub fn new(number: u8, values: &[usize]) -> Refused
         ensures { told_by result ≡ (number, take 4 values.now) }
     {
-        let count = values.len().min(4);
-        let beside = first_of(values, count);
         Refused {
             number,
-            beside,
-            count,
+            beside: Inline::from_front(values),
         }
     }
-}
-
-// The first `count` values, and zeros behind them.
-fn first_of(values: &[usize], count: usize) -> [usize; 4]
-    requires { (count ≤ 4) × (count ≤ length values.now) }
-    ensures { take count result ≡ take count values.now }
-{
-    let mut front = [0; 4];
-    for i in 0..count {
-        front[i] = values[i];
-    }
-    front
 }
 
 // The number, then each value behind a space.
@@ -52,7 +38,7 @@ impl fmt::Display for Refused {
     fn fmt<W: fmt::Write>(&self, f: &mut fmt::Formatter<W>) -> fmt::Result {
         let number = self.number;
         write!(f, "{number}")?;
-        for value in &self.beside[0..self.count] {
+        for value in self.beside.as_slice() {
             write!(f, " {value}")?;
         }
         Ok(())

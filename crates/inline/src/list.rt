@@ -1,0 +1,18 @@
+ghost use Rattle.std.specs.Prelude.{◌≤◌};
+
+use std::alloc::AllocError;
+
+// At most `N` values, the first `count` of `items`. What lies behind them counts for nothing.
+pub struct Inline<T, const N: usize> {
+    pub items: [T; N],
+    pub count: usize,
+    ghost within: { count ≤ N },
+}
+
+impl<T: Copy, const N: usize> Copy for Inline<T, N> {}
+
+impl<T: Copy, const N: usize> Clone for Inline<T, N> {
+    fn clone(&self) -> Result<Inline<T, N>, AllocError> {
+        Ok(*self)
+    }
+}
