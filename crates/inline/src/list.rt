@@ -1,4 +1,4 @@
-ghost use Rattle.std.specs.Prelude.{◌≤◌};
+ghost use Rattle.std.specs.Prelude.{◌≡◌, ◌≤◌};
 
 use std::alloc::AllocError;
 
@@ -11,7 +11,12 @@ pub struct Inline<T, const N: usize> {
 
 impl<T: Copy, const N: usize> Copy for Inline<T, N> {}
 
+// The same list, for which no memory is asked.
 impl<T: Copy, const N: usize> Clone for Inline<T, N> {
+    ghost is_clone = { λ a b. b ≡ a };
+
+    ghost is_infallible = { λ _. Unit {0} };
+
     fn clone(&self) -> Result<Inline<T, N>, AllocError> {
         Ok(*self)
     }
