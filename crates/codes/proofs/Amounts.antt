@@ -1,17 +1,13 @@
 -- Reading a decimal: its head, then its digits.
-use Rattle.std.proofs.Common.{◌≡◌, ℕ, zero, suc, ◌+◌, ◌<◌, List, [], ◌∷◌, ◌++◌, length, get_or, drop, ℤ, sym, refl, ap, subst, inl, inr, arith}
+use Rattle.std.proofs.Common.{◌≡◌, ℕ, zero, suc, ◌+◌, ◌<◌, List, [], ◌∷◌, ◌++◌, length, get_or, drop, ℤ, sym, refl, ap, subst, arith}
 use Rattle.codes.specs.declared.sign.Sign.{Sign}
-use Rattle.codes.specs.declared.sign.Sign.TheVariants.{Negative, Positive}
-use Rattle.codes.specs.declared.class.Kind.{Kind}
-use Rattle.codes.specs.declared.class.Kind.TheVariants.{Foreign, Null, Zero, Near, Far, Small, Text}
 use Rattle.codes.specs.Strings.{Begins}
 use Rattle.codes.specs.Decimals.{Number, naught, amount, Shaped}
 use Rattle.codes.specs.Codes.{body_of, number_code}
-use Rattle.codes.specs.Classes.{KindRule}
 use Rattle.codes.specs.Leads.{AreDigits, InRange, head_bytes}
 use Rattle.codes.specs.Reading.{Starts, Stops}
 use Rattle.codes.proofs.Heads.{head_free, head_full}
-use Rattle.codes.proofs.Readings.{Joint, joint, seq_starts, seq_first, seq_second, head_starts, head_stops}
+use Rattle.codes.proofs.Readings.{Joint, joint, seq_first, seq_second, head_stops}
 
 abbrev Parts : Type 0
 Parts = (Sign × ℤ) × List ℕ
@@ -42,12 +38,6 @@ some_digits q r = (1 ∷ [], ((omega arith, omega arith, at), (omega arith, omeg
     at zero h = omega arith
     at (suc k) h = absurd (omega arith)
 
-pub amount_starts : (b : List ℕ) (s : Sign) (e : ℤ) (ds : List ℕ) (n k : ℕ) → Starts InRange head_bytes b (s, e) n → Starts AreDigits (body_of s) (drop n b) ds k →
-    Starts Shaped number_code b (amount s e ds) (n + k)
-amount_starts b s e ds n k h d =
-    head_starts Whole bytes Shaped number_code (λ p. amount p.0.0 p.0.1 p.1) keeps b ((s, e), ds) (n + k)
-    (seq_starts InRange head_bytes (λ q. AreDigits) (λ q. body_of q.0) head_free b (s, e) ds n k h d)
-
 module _ (x : ℕ) (xs : List ℕ) (no15 : x ≡ 0x15 → ⊥) where
   stopped : (p : ℕ) → Stops Whole bytes (x ∷ xs) p → Stops Shaped number_code (x ∷ xs) p
   stopped p s =
@@ -67,21 +57,3 @@ number_none = (none, omega arith, (naught, (tt, (0x15 ∷ [], refl))), λ l. abs
     none : (n : Number) → Shaped n → Begins (number_code n) [] → ⊥
     none n c b = let f = number_full n in
         let z = subst (λ (u : List ℕ). u ++ b.0 ≡ []) f.2 b.1 in let w = ap length z in omega arith
-
-pub zero_starts : (xs : List ℕ) → Starts Shaped number_code (0x15 ∷ xs) naught 1
-zero_starts xs = (tt, refl, (xs, refl))
-
--- only the class of zero has the byte of zero
-pub not_zero_byte : (k : Kind) (s : Sign) (b e : ℕ) → KindRule b k s e → (k ≡ Zero → ⊥) → b ≡ 0x15 → ⊥
-not_zero_byte Zero s b e r n q = n refl
-not_zero_byte Null s b e r n q = omega arith
-not_zero_byte Text s b e r n q = omega arith
-not_zero_byte Far Negative b e r n q = omega arith
-not_zero_byte Far Positive b e r n q = omega arith
-not_zero_byte Small Negative b e r n q = omega arith
-not_zero_byte Small Positive b e r n q = omega arith
-not_zero_byte Near Negative b e r n q = omega (arith, r.0, r.1)
-not_zero_byte Near Positive b e r n q = omega (arith, r.0, r.1)
-not_zero_byte Foreign s b e (inl r) n q = omega (arith, r.0)
-not_zero_byte Foreign s b e (inr (inl r)) n q = omega arith
-not_zero_byte Foreign s b e (inr (inr r)) n q = omega arith

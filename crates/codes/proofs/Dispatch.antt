@@ -1,17 +1,16 @@
 -- Reading a text, and reading a value of the kind that its first byte tells.
 use Rattle.std.proofs.Common.{◌≡◌, ℕ, suc, ◌+◌, ◌<◌, ◌≤◌, List, [], ◌∷◌, ◌++◌, length, get_or, take, drop, Err, sym, refl, ap, ◌∙◌, subst, inl, inr, append_assoc, arith, length-append, length-take, drop-cons}
 use Rattle.std.proofs.lemmas.List.{take_all, take-append-drop}
-use Rattle.codes.specs.declared.sign.Sign.{Sign}
 use Rattle.codes.specs.declared.sign.Sign.TheVariants.{Negative, Positive}
-use Rattle.codes.specs.declared.class.Kind.{Kind}
-use Rattle.codes.specs.declared.class.Kind.TheVariants.{Foreign, Null, Zero, Near, Far, Small, Text}
+use Rattle.codes.specs.declared.class.Class.{Class}
+use Rattle.codes.specs.declared.class.Class.TheVariants.{Foreign, Null, Zero, Near, Far, Small, Text}
 use Rattle.codes.specs.declared.unread.Unread.{Unread}
 use Rattle.codes.specs.declared.unread.Unread.TheVariants.{NoCode, NoRoom}
 use Rattle.codes.specs.Strings.{Begins}
 use Rattle.codes.specs.Decimals.{Number, naught, amount, Shaped}
 use Rattle.codes.specs.Values.{Datum, null, decimal, text, TextBytes, Valid, spelled_in}
 use Rattle.codes.specs.Codes.{body_of, datum_code, number_code, text_code}
-use Rattle.codes.specs.Classes.{KindRule}
+use Rattle.codes.specs.Classes.{Rule}
 use Rattle.codes.specs.Means.{datum_of, text_of}
 use Rattle.codes.specs.Reading.{Starts, Begun, Stops, Read}
 use Rattle.codes.proofs.Amounts.{number_full}
@@ -52,17 +51,6 @@ text_found r i h c z = (
 begun : Begun TextBytes text_code []
 begun = ([], (tt, (0x24 ∷ 0 ∷ [], refl)))
 
-pub text_none : Stops TextBytes text_code [] 0
-text_none = (λ m c h. let e = ap length h.1 in omega arith, omega arith, begun, λ l. absurd (omega arith))
-
-pub text_wrong : (x : ℕ) (xs : List ℕ) → (x ≡ 0x24 → ⊥) → Stops TextBytes text_code (x ∷ xs) 0
-text_wrong x xs n = (
-  λ m c h. n (sym (begins_cons 0x24 x (m ++ (0 ∷ [])) xs h).0),
-  omega arith,
-  begun,
-  λ l w. n (begins_cons x 0x24 [] (w.0 ++ (0 ∷ [])) w.1.1).0,
-)
-
 -- the first bytes of the kinds
 number_first : (n : Number) (x : ℕ) (ys : List ℕ) → number_code n ≡ x ∷ ys → (8 ≤ x) × (x ≤ 0x22)
 number_first naught x ys h = let e : 0x15 ≡ x = cc in (omega arith, omega arith)
@@ -95,8 +83,8 @@ number_stops x xs p no5 no24 s = head_stops Shaped number_code Valid datum_code 
 -- a text as a value
 pub text_err : (b before after : List ℕ) (why : Unread) (xs : List ℕ) → b ≡ 0x24 ∷ xs → Read TextBytes text_code text_of (λ t. t) b before after (Err why) →
     Read Valid datum_code datum_of spelled_in b before after (Err why)
-text_err b before after (NoCode at) xs e r =
-    (subst (λ (z : List ℕ). Stops Valid datum_code z at) (sym e) (text_stops xs at (subst (λ (z : List ℕ). Stops TextBytes text_code z at) e r.0)), r.1)
+text_err b before after (NoCode p) xs e r =
+    (subst (λ (z : List ℕ). Stops Valid datum_code z p.at) (sym e) (text_stops xs p.at (subst (λ (z : List ℕ). Stops TextBytes text_code z p.at) e r.0)), r.1)
 text_err b before after NoRoom xs e r = ((text r.0.0, r.0.1, r.0.2), r.1)
 
 nothing : Begun Valid datum_code []
@@ -109,42 +97,17 @@ datum_none = (none, omega arith, nothing, λ l. absurd (omega arith))
     none t c b = let f = datum_full t c in
         let z = subst (λ (u : List ℕ). u ++ b.0 ≡ []) f.2 b.1 in let w = ap length z in omega arith
 
-foreign : (x e : ℕ) (s : Sign) → KindRule x Foreign s e → (t : Datum) → Valid t → (ys : List ℕ) → datum_code t ≡ x ∷ ys → ⊥
-foreign x e s (inl r) null c ys h = let q : 0x05 ≡ x = cc in r.1 (sym q)
-foreign x e s (inr (inl r)) null c ys h = let q : 0x05 ≡ x = cc in omega arith
-foreign x e s (inr (inr r)) null c ys h = let q : 0x05 ≡ x = cc in omega arith
-foreign x e s (inl r) (decimal n) c ys h = let l = number_first n x ys h in omega (arith, l.0, r.0)
-foreign x e s (inr (inl r)) (decimal n) c ys h = let l = number_first n x ys h in omega (arith, l.1)
-foreign x e s (inr (inr r)) (decimal n) c ys h = let l = number_first n x ys h in omega (arith, l.1)
-foreign x e s (inl r) (text t) c ys h = let q : 0x24 ≡ x = cc in omega (arith, r.0)
-foreign x e s (inr (inl r)) (text t) c ys h = let q : 0x24 ≡ x = cc in omega arith
-foreign x e s (inr (inr r)) (text t) c ys h = let q : 0x24 ≡ x = cc in omega arith
-
--- a first byte with which no code begins
-pub datum_never : (x : ℕ) (xs : List ℕ) (e : ℕ) (s : Sign) → KindRule x Foreign s e → Stops Valid datum_code (x ∷ xs) 0
-datum_never x xs e s r = (none, omega arith, nothing, λ l w. again w.0 w.1.0 w.1.1)
-  where
-    none : (t : Datum) → Valid t → Begins (datum_code t) (x ∷ xs) → ⊥
-    none t c b = let f = datum_full t c in
-        let q = (begins_cons f.0 x f.1 xs (subst (λ (z : List ℕ). Begins z (x ∷ xs)) f.2 b)).0 in
-        foreign x e s r t c f.1 (f.2 ∙ ap (λ z. z ∷ f.1) q)
-
-    again : (t : Datum) → Valid t → Begins (x ∷ []) (datum_code t) → ⊥
-    again t c b = let f = datum_full t c in
-        let q = (begins_cons x f.0 [] f.1 (subst (λ (z : List ℕ). Begins (x ∷ []) z) f.2 b)).0 in
-        foreign x e s r t c f.1 (f.2 ∙ ap (λ z. z ∷ f.1) (sym q))
-
 -- only the class of null has its byte, and only that of texts theirs
-pub own_byte : (k : Kind) (s : Sign) (b e : ℕ) → KindRule b k s e → ((k ≡ Null → ⊥) → b ≡ 0x05 → ⊥) × ((k ≡ Text → ⊥) → b ≡ 0x24 → ⊥)
-own_byte Null s b e r = (λ n q. n refl, λ n q. omega arith)
-own_byte Text s b e r = (λ n q. omega arith, λ n q. n refl)
-own_byte Zero s b e r = (λ n q. omega arith, λ n q. omega arith)
-own_byte Far Negative b e r = (λ n q. omega arith, λ n q. omega arith)
-own_byte Far Positive b e r = (λ n q. omega arith, λ n q. omega arith)
-own_byte Small Negative b e r = (λ n q. omega arith, λ n q. omega arith)
-own_byte Small Positive b e r = (λ n q. omega arith, λ n q. omega arith)
-own_byte Near Negative b e r = (λ n q. omega (arith, r.0, r.1), λ n q. omega (arith, r.0, r.1))
-own_byte Near Positive b e r = (λ n q. omega (arith, r.0, r.1), λ n q. omega (arith, r.0, r.1))
-own_byte Foreign s b e (inl r) = (λ n q. r.1 q, λ n q. omega (arith, r.0))
-own_byte Foreign s b e (inr (inl r)) = (λ n q. omega arith, λ n q. omega arith)
-own_byte Foreign s b e (inr (inr r)) = (λ n q. omega arith, λ n q. omega arith)
+pub own_byte : (k : Class) (b : ℕ) → Rule b k → ((k ≡ Null → ⊥) → b ≡ 0x05 → ⊥) × ((k ≡ Text → ⊥) → b ≡ 0x24 → ⊥)
+own_byte Null b r = (λ n q. n refl, λ n q. omega arith)
+own_byte Text b r = (λ n q. omega arith, λ n q. n refl)
+own_byte Zero b r = (λ n q. omega arith, λ n q. omega arith)
+own_byte (Far Negative) b r = (λ n q. omega arith, λ n q. omega arith)
+own_byte (Far Positive) b r = (λ n q. omega arith, λ n q. omega arith)
+own_byte (Small Negative) b r = (λ n q. omega arith, λ n q. omega arith)
+own_byte (Small Positive) b r = (λ n q. omega arith, λ n q. omega arith)
+own_byte (Near Negative e) b r = (λ n q. omega (arith, r.0, r.1), λ n q. omega (arith, r.0, r.1))
+own_byte (Near Positive e) b r = (λ n q. omega (arith, r.0, r.1), λ n q. omega (arith, r.0, r.1))
+own_byte Foreign b (inl r) = (λ n q. r.1 q, λ n q. omega (arith, r.0))
+own_byte Foreign b (inr (inl r)) = (λ n q. omega arith, λ n q. omega arith)
+own_byte Foreign b (inr (inr r)) = (λ n q. omega arith, λ n q. omega arith)

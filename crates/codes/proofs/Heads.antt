@@ -1,15 +1,15 @@
 -- Reading what stands before a mantissa.
 use Rattle.std.proofs.Common.{◌≡◌, ℕ, ◌+◌, ◌-◌, ◌<◌, ◌≤◌, Bool, true, false, cond, ltb, ◌⊎◌, List, [], ◌∷◌, ◌++◌, length, take, ℤ, pos, negsuc, ◌-ℤ◌, sym, refl, ap, ◌∙◌, subst, inl, inr, arith, w32, SFits, to_z, of_z, rules}
-use Rattle.std.proofs.lemmas.Int.{ints, to_z_pos, to_z-of_z}
+use Rattle.std.proofs.lemmas.Int.{ints, to_z-of_z}
 use Rattle.std.proofs.lemmas.Bool.{cases_order, ltb-true, ltb-false, lt-ltb, le-ltb}
 use Rattle.codes.specs.declared.sign.Sign.{Sign}
 use Rattle.codes.specs.declared.sign.Sign.TheVariants.{Negative, Positive}
-use Rattle.codes.specs.declared.class.Kind.{Kind}
-use Rattle.codes.specs.declared.class.Kind.TheVariants.{Foreign, Null, Zero, Near, Far, Small, Text}
+use Rattle.codes.specs.declared.class.Class.{Class}
+use Rattle.codes.specs.declared.class.Class.TheVariants.{Foreign, Null, Zero, Near, Far, Small, Text}
 use Rattle.codes.specs.Strings.{Begins, flip, flipped}
 use Rattle.codes.specs.Decimals.{Range, raised}
 use Rattle.codes.specs.Codes.{lead_of}
-use Rattle.codes.specs.Classes.{KindRule}
+use Rattle.codes.specs.Classes.{Rule}
 use Rattle.codes.specs.Leads.{InRange, head_bytes, far_byte, other_sign, small_byte}
 use Rattle.codes.specs.Sources.{Through}
 use Rattle.codes.specs.Reading.{Starts, Begun, Stops}
@@ -121,7 +121,7 @@ head_wide x xs some bad = (none, omega arith, some, again xs bad)
         k.2 vs (ap (λ z. z ∷ vs) g)
 
 -- heads that the first byte tells
-pub near_head : (s : Sign) (b e : ℕ) (xs : List ℕ) → KindRule b Near s e → Starts InRange head_bytes (b ∷ xs) (s, pos e) 1
+pub near_head : (s : Sign) (b e : ℕ) (xs : List ℕ) → Rule b (Near s e) → Starts InRange head_bytes (b ∷ xs) (s, pos e) 1
 near_head Negative b e xs r =
     let t : ltb e 11 ≡ true = lt-ltb e 11 (omega (arith, r.0)) in
     let q : 0x13 - e ≡ b = omega (arith, r.0, r.1) in
@@ -218,30 +218,35 @@ head_first (Positive, pos n) x ys h = at (led Positive (pos n) x ys h)
     at (inl l) = (omega (arith, l.1), omega (arith, l.0, l.1), λ z. omega (arith, l.1))
     at (inr l) = (omega (arith, l.1), omega (arith, l.1), λ z. omega (arith, l.1))
 
-pub byte_of_far : (s : Sign) (b e : ℕ) → KindRule b Far s e → b ≡ far_byte s
-byte_of_far Negative b e r = r
-byte_of_far Positive b e r = r
+pub byte_of_far : (s : Sign) (b : ℕ) → Rule b (Far s) → b ≡ far_byte s
+byte_of_far Negative b r = r
+byte_of_far Positive b r = r
 
-pub byte_of_small : (s : Sign) (b e : ℕ) → KindRule b Small s e → b ≡ small_byte s
-byte_of_small Negative b e r = r
-byte_of_small Positive b e r = r
+pub byte_of_small : (s : Sign) (b : ℕ) → Rule b (Small s) → b ≡ small_byte s
+byte_of_small Negative b r = r
+byte_of_small Positive b r = r
 
 -- bytes of the other classes begin no head
-pub other_head : (k : Kind) (s : Sign) (b e : ℕ) (xs : List ℕ) → KindRule b k s e → (k ≡ Near → ⊥) → (k ≡ Far → ⊥) → (k ≡ Small → ⊥) → Stops InRange head_bytes (b ∷ xs) 0
-other_head Near s b e xs r n f m = absurd (n refl)
-other_head Far s b e xs r n f m = absurd (f refl)
-other_head Small s b e xs r n f m = absurd (m refl)
-other_head Null s b e xs r n f m = head_never b xs (λ q c ys h. let l = head_first q b ys h in omega (arith, l.0))
-other_head Text s b e xs r n f m = head_never b xs (λ q c ys h. let l = head_first q b ys h in omega (arith, l.1))
-other_head Zero s b e xs r n f m = head_never b xs (λ q c ys h. (head_first q b ys h).2 r)
-other_head Foreign s b e xs (inl r) n f m = head_never b xs (λ q c ys h. let l = head_first q b ys h in omega (arith, l.0, r.0))
-other_head Foreign s b e xs (inr (inl r)) n f m = head_never b xs (λ q c ys h. let l = head_first q b ys h in omega (arith, l.1))
-other_head Foreign s b e xs (inr (inr r)) n f m = head_never b xs (λ q c ys h. let l = head_first q b ys h in omega (arith, l.1))
+pub other_head : (k : Class) (b : ℕ) (xs : List ℕ) → Rule b k → ((s : Sign) (e : ℕ) → k ≡ Near s e → ⊥) → ((s : Sign) → k ≡ Far s → ⊥) → ((s : Sign) → k ≡ Small s → ⊥) →
+    Stops InRange head_bytes (b ∷ xs) 0
+other_head (Near s e) b xs r n f m = absurd (n s e refl)
+other_head (Far s) b xs r n f m = absurd (f s refl)
+other_head (Small s) b xs r n f m = absurd (m s refl)
+other_head Null b xs r n f m = head_never b xs (λ q c ys h. let l = head_first q b ys h in omega (arith, l.0))
+other_head Text b xs r n f m = head_never b xs (λ q c ys h. let l = head_first q b ys h in omega (arith, l.1))
+other_head Zero b xs r n f m = head_never b xs (λ q c ys h. (head_first q b ys h).2 r)
+other_head Foreign b xs (inl r) n f m = head_never b xs (λ q c ys h. let l = head_first q b ys h in omega (arith, l.0, r.0))
+other_head Foreign b xs (inr (inl r)) n f m = head_never b xs (λ q c ys h. let l = head_first q b ys h in omega (arith, l.1))
+other_head Foreign b xs (inr (inr r)) n f m = head_never b xs (λ q c ys h. let l = head_first q b ys h in omega (arith, l.1))
 
--- the exponent −v, as the machine has it
-pub negated : (v : ℕ) → 1 ≤ v → v ≤ 240 → to_z w32 (of_z w32 (pos 0 -ℤ to_z w32 v)) ≡ negsuc (v - 1)
-negated v l h =
-    let p : to_z w32 v ≡ pos v = to_z_pos w32 v (omega arith) in
+-- the exponent v, and the exponent −v, as the machine has them
+pub widened : (z : ℤ) (v : ℕ) → z ≡ pos v → v < 256 → to_z w32 (of_z w32 z) ≡ pos v
+widened z v e h =
+    let f : SFits w32 (pos v) = search (rules, ints) in
+    rw e (to_z-of_z w32 (pos v) f)
+
+pub negated : (z : ℤ) (v : ℕ) → z ≡ pos v → 1 ≤ v → v ≤ 240 → to_z w32 (of_z w32 (pos 0 -ℤ to_z w32 (of_z w32 z))) ≡ negsuc (v - 1)
+negated z v e l h =
     let q : pos 0 -ℤ pos v ≡ negsuc (v - 1) = omega (arith, ints) in
     let f : SFits w32 (negsuc (v - 1)) = search (rules, ints) in
-    rw (p, q) (to_z-of_z w32 (negsuc (v - 1)) f)
+    rw (widened z v e (omega arith), q) (to_z-of_z w32 (negsuc (v - 1)) f)

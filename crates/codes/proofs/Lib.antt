@@ -9,3 +9,5 @@ pub mod Tables
 pub mod Heads
 pub mod Amounts
 pub mod Dispatch
+pub mod Exits
+pub mod Zeros

@@ -1,7 +1,7 @@
 -- Reading a mantissa, digit by digit.
-use Rattle.std.proofs.Common.{◌≡◌, ℕ, zero, suc, ◌+◌, ◌-◌, ◌*◌, ◌%◌, ◌<◌, ◌≤◌, List, [], ◌∷◌, ◌++◌, length, get_or, take, drop, set, sym, refl, ap, ◌∙◌, subst, append_assoc, append-nil, zero-add, add-one, arith, drop-cons}
+use Rattle.std.proofs.Common.{◌≡◌, ℕ, zero, suc, ◌+◌, ◌-◌, ◌*◌, ◌%◌, ◌<◌, ◌≤◌, List, [], ◌∷◌, ◌++◌, length, get_or, take, drop, sym, refl, ap, subst, append_assoc, zero-add, add-one, arith, drop-cons}
 use Rattle.std.proofs.ByRecursion.{All-from_get_or}
-use Rattle.std.proofs.lemmas.List.{take_more_set, drop_all}
+use Rattle.std.proofs.lemmas.List.{drop_all}
 use Rattle.codes.specs.declared.sign.Sign.{Sign}
 use Rattle.codes.specs.declared.sign.Sign.TheVariants.{Negative, Positive}
 use Rattle.codes.specs.Strings.{Begins, Bytes}
@@ -104,31 +104,28 @@ row_from ds c = let r = from_shape 0 ds c in ((r.0, omega (arith, r.1), r.2), (r
 pub from_row : (ds : List ℕ) → Row ds × Trim ds → From 0 ds
 from_row ds r = shape_from 0 ds r.0.0 (omega (arith, r.0.1)) r.0.2 r.1.1 (λ _. r.1.0)
 
--- what is left behind i digits decides the whole
+-- behind i digits, what is left decides the whole
 abbrev pub Onward : List ℕ → ℕ → List ℕ → Type 0
 Onward b i digits =
-    ((ds : List ℕ) (n : ℕ) → Starts (From i) mantissa (drop i b) ds n → Starts (From 0) mantissa b (take i digits ++ ds) (i + n))
+    ((ds : List ℕ) (n : ℕ) → Starts (From i) mantissa (drop i b) ds n → Starts (From 0) mantissa b (digits ++ ds) (i + n))
     × ((p : ℕ) → Stops (From i) mantissa (drop i b) p → Stops (From 0) mantissa b (i + p))
 
-pub onward_start : (b digits : List ℕ) → Onward b 0 digits
-onward_start b digits = (
+pub onward_start : (b : List ℕ) → Onward b 0 []
+onward_start b = (
   λ ds n s. subst (λ (k : ℕ). Starts (From 0) mantissa b ds k) (sym (zero-add n)) s,
   λ p s. subst (λ (k : ℕ). Stops (From 0) mantissa b k) (sym (zero-add p)) s,
 )
 
-module _ (b : List ℕ) (i : ℕ) (digits : List ℕ) (d : ℕ) (on : Onward b i digits) (h : i < length b) (room : i < length digits) where
+module _ (b : List ℕ) (i : ℕ) (digits : List ℕ) (d : ℕ) (on : Onward b i digits) (h : i < length b) where
   next : drop i b ≡ get_or b i 0 ∷ drop (i + 1) b
   next = rw add-one (drop-cons b i 0 h)
 
-  set_front : (ds : List ℕ) → take (i + 1) (set digits i d) ++ ds ≡ take i digits ++ (d ∷ ds)
-  set_front ds = ap (λ z. z ++ ds) (take_more_set digits i d room) ∙ append_assoc (take i digits) (d ∷ []) ds
-
-  pub onward_more : get_or b i 0 ≡ 2 * d + 1 → d < 100 → (i ≡ 0 → 0 < d) → Onward b (i + 1) (set digits i d)
+  pub onward_more : get_or b i 0 ≡ 2 * d + 1 → d < 100 → (i ≡ 0 → 0 < d) → Onward b (i + 1) (digits ++ (d ∷ []))
   onward_more e k l = (
     λ ds n s.
         let q : i + (1 + n) ≡ i + 1 + n = omega arith in
-        subst (λ (z : ℕ). Starts (From 0) mantissa b (take (i + 1) (set digits i d) ++ ds) z) q
-        (subst (λ (z : List ℕ). Starts (From 0) mantissa b z (i + (1 + n))) (sym (set_front ds))
+        subst (λ (z : ℕ). Starts (From 0) mantissa b ((digits ++ (d ∷ [])) ++ ds) z) q
+        (subst (λ (z : List ℕ). Starts (From 0) mantissa b z (i + (1 + n))) (sym (append_assoc digits (d ∷ []) ds))
         (on.0 (d ∷ ds) (1 + n) (subst (λ (z : List ℕ). Starts (From i) mantissa z (d ∷ ds) (1 + n)) (sym next) (start_more i d (get_or b i 0) (drop (i + 1) b) e k l ds n s)))),
     λ p s.
         let q : i + (1 + p) ≡ i + 1 + p = omega arith in
@@ -136,11 +133,10 @@ module _ (b : List ℕ) (i : ℕ) (digits : List ℕ) (d : ℕ) (on : Onward b i
         (on.1 (1 + p) (subst (λ (z : List ℕ). Stops (From i) mantissa z (1 + p)) (sym next) (stop_more i d (get_or b i 0) (drop (i + 1) b) e k l p s))),
   )
 
-  pub onward_last : get_or b i 0 ≡ 2 * d → i < 16 → d < 100 → 0 < d → Starts AreDigits mantissa b (take (i + 1) (set digits i d)) (i + 1)
+  pub onward_last : get_or b i 0 ≡ 2 * d → i < 16 → d < 100 → 0 < d → Starts AreDigits mantissa b (digits ++ (d ∷ [])) (i + 1)
   onward_last e w k l =
-      let s = on.0 (d ∷ []) 1 (subst (λ (z : List ℕ). Starts (From i) mantissa z (d ∷ []) 1) (sym next) (start_last i d (get_or b i 0) (drop (i + 1) b) e w k l)) in
-      let t = subst (λ (z : List ℕ). Starts (From 0) mantissa b z (i + 1)) (sym (set_front []) ∙ append-nil (take (i + 1) (set digits i d))) s in
-      (row_from (take (i + 1) (set digits i d)) t.0, t.1, t.2)
+      let t = on.0 (d ∷ []) 1 (subst (λ (z : List ℕ). Starts (From i) mantissa z (d ∷ []) 1) (sym next) (start_last i d (get_or b i 0) (drop (i + 1) b) e w k l)) in
+      (row_from (digits ++ (d ∷ [])) t.0, t.1, t.2)
 
 -- in terms of a decimal's digits
 pub onward_stop : (b : List ℕ) (i : ℕ) (digits : List ℕ) → Onward b i digits → Stops (From i) mantissa (drop i b) 0 → Stops AreDigits mantissa b i

@@ -1,6 +1,8 @@
 -- The bytes of digits, written one by one, and the lengths of codes.
-use Rattle.std.proofs.Common.{◌≡◌, ℕ, zero, suc, ◌+◌, ◌-◌, ◌*◌, ◌<◌, ◌≤◌, Bool, true, false, cond, ltb, List, [], ◌∷◌, ◌++◌, length, get_or, take, set, ℤ, pos, negsuc, sym, refl, ap, ◌∙◌, arith, length-append}
+use Rattle.std.proofs.Common.{◌≡◌, ℕ, zero, suc, ◌+◌, ◌-◌, ◌*◌, ◌<◌, ◌≤◌, Bool, true, false, cond, ltb, List, [], ◌∷◌, ◌++◌, length, get_or, take, set, ℤ, pos, negsuc, sym, refl, ap, ◌∙◌, inl, inr, arith, length-append}
+use Rattle.std.proofs.lemmas.Bool.{cases_lt, lt-ltb, le-ltb}
 use Rattle.std.proofs.lemmas.List.{take_more, take_more_set}
+use mir.Val.{bool_byte}
 use Rattle.codes.specs.declared.sign.Sign.{Sign}
 use Rattle.codes.specs.declared.sign.Sign.TheVariants.{Negative, Positive}
 use Rattle.codes.specs.Decimals.{amount}
@@ -43,6 +45,15 @@ mark_at (d ∷ []) (suc i) h = absurd (omega arith)
 mark_at (d ∷ e ∷ es) zero h = (λ l. refl, λ l. absurd (omega arith))
 mark_at (d ∷ e ∷ es) (suc i) h =
     let r = mark_at (e ∷ es) i (omega arith) in (λ l. r.0 (omega arith), λ l. r.1 (omega arith))
+
+-- the byte of a digit: one more than twice the digit where another one follows
+pub mark_byte : (ds : List ℕ) (i r : ℕ) → i < length ds → r ≡ bool_byte (ltb i (length ds - 1)) → 2 * get_or ds i 0 + r ≡ get_or (mantissa ds) i 0
+mark_byte ds i r h e =
+    let m = mark_at ds i h in
+    elim (cases_lt i (length ds - 1)) [
+      | inl l ↦ let t : ltb i (length ds - 1) ≡ true = lt-ltb i (length ds - 1) l in let q : r ≡ 1 = rw t at e in omega (arith, m.0 l)
+      | inr l ↦ let t : ltb i (length ds - 1) ≡ false = le-ltb i (length ds - 1) l in let q : r ≡ 0 = rw t at e in omega (arith, m.1 l)
+    ]
 
 -- one byte more of the mantissa
 pub marked : (ds out : List ℕ) (i b : ℕ) → i < length ds → length out ≡ length ds → take i out ≡ take i (mantissa ds) → b ≡ get_or (mantissa ds) i 0 →

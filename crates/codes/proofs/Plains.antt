@@ -1,22 +1,15 @@
 -- Digits that pass the test of a decimal's making have its shape.
-use Rattle.std.proofs.Common.{◌≡◌, ℕ, ◌-◌, ◌<◌, ◌≤◌, true, false, not, ◌&&◌, eqb, ltb, List, [], ◌∷◌, length, get_or, refl, arith}
-use Rattle.std.specs.List.{AllByRecursion}
-use Rattle.std.proofs.lemmas.Bool.{and_parts, eqb-false, ne_eqb, not-true, false≢true}
+use Rattle.std.proofs.Common.{◌≡◌, ℕ, ◌-◌, ◌<◌, ◌≤◌, true, not, ◌&&◌, eqb, ltb, List, [], ◌∷◌, length, get_or, refl, ap, arith}
+use Rattle.std.specs.List.{AllByRecursion, list_all}
+use Rattle.std.proofs.lemmas.Bool.{and_parts, eqb-false, not-true, false≢true}
 use Rattle.std.proofs.ByRecursion.{All-get_or, Decides-by_and}
 use Rattle.std.proofs.lemmas.Bool.Decides.{Decides-ltb}
 use Rattle.codes.specs.Decimals.{Row, Trim}
 use Rattle.codes.specs.Making.{centimal, plain_digits}
 
-pub plain_none : (ds : List ℕ) → length ds ≡ 0 → plain_digits ds ≡ false
-plain_none [] h = refl
-plain_none (d ∷ ds) h = absurd (omega arith)
-
--- a test that is not passed, and the whole
-pub plain_not : (ds : List ℕ) → centimal ds ≡ false → plain_digits ds ≡ false
-plain_not ds h = rw h refl
-
-pub plain_last : (ds : List ℕ) → centimal ds ≡ true → (get_or ds 0 0 ≡ 0 → ⊥) → not (eqb (get_or ds (length ds - 1) 0) 0) ≡ plain_digits ds
-plain_last ds h k = let e : eqb (get_or ds 0 0) 0 ≡ false = ne_eqb (get_or ds 0 0) 0 k in rw (h, e) refl
+pub centimal_each : (ds : List ℕ) → list_all (λ d. ltb d 100) ds ≡ centimal ds
+centimal_each [] = refl
+centimal_each (d ∷ ds) = ap (λ t. ltb d 100 && t) (centimal_each ds)
 
 centimal_all : (ds : List ℕ) → centimal ds ≡ true → AllByRecursion (λ d. d < 100) ds
 centimal_all ds = (Decides-by_and (λ d. ltb d 100) (λ d. d < 100) centimal (λ d. Decides-ltb d 100) refl (λ _ _. refl) ds).0

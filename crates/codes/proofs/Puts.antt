@@ -1,41 +1,12 @@
 -- Writes to the front of an output.
-use Rattle.std.proofs.Common.{◌≡◌, ℕ, suc, ◌+◌, ◌-◌, ◌<◌, ◌≤◌, min, Bool, List, [], ◌∷◌, ◌++◌, length, get_or, take, drop, set, Some, None, Option, sym, refl, ap, ◌∙◌, inl, inr, append_assoc, arith, length-drop, length-take, drop-cons}
-use borrow.Rule.Slice.PartMut.{put_mid, post_of}
-use Rattle.std.proofs.lemmas.List.{take_at, drop_at, length-map, drop-drop, drop_all, take_all, set_at}
+use Rattle.std.proofs.Common.{◌≡◌, ℕ, suc, ◌+◌, ◌-◌, ◌<◌, ◌≤◌, min, List, [], ◌∷◌, ◌++◌, length, get_or, take, drop, set, sym, refl, ap, ◌∙◌, inl, inr, append_assoc, arith, length-drop, drop-cons}
+use borrow.Rule.Slice.PartMut.{put_mid}
+use Rattle.std.proofs.lemmas.List.{length-map, drop_all, take_all, set_at}
 use Rattle.std.proofs.lemmas.Bool.{cases_lt}
 use Rattle.codes.specs.Strings.{flip, flipped}
-use Rattle.codes.specs.Laws.{Measured, counted}
 
 pub length_flipped : (xs : List ℕ) → length (flipped xs) ≡ length xs
 length_flipped xs = length-map xs flip
-
--- a code and its complement have one length
-pub measured_flipped : (C : Type 0) (ok : Bool) (code : List ℕ) (r : Option ℕ) → Measured ok C code r → Measured ok C (flipped code) r
-measured_flipped C ok code None h = h
-measured_flipped C ok code (Some n) h = (h.0, h.1, h.2 ∙ ap counted (sym (length_flipped code)))
-
--- the complement of what was put at the front
-pub put_flipped : (code out after last : List ℕ) (n : ℕ) → n ≡ length code → after ≡ code ++ drop n out → last ≡ flipped (take (n - 0) after) →
-    last ++ post_of 0 (n - 0) after ≡ flipped code ++ drop n out
-put_flipped code out after last n long is turned =
-    let k : length code ≡ n - 0 = omega arith in
-    let a : take (n - 0) after ≡ code = rw is (take_at code (drop n out) (n - 0) k) in
-    let b : drop (n - 0) after ≡ drop n out = rw is (drop_at code (drop n out) (n - 0) k) in
-    cc
-
--- two writes, the second right behind the first
-pub put_two : (lead b out first last : List ℕ) (n e : ℕ) → n ≤ length lead → e ≡ n + length b → e ≤ length out → first ≡ take (n - 0) lead → last ≡ b →
-    put_mid n (e - n) (first ++ post_of 0 (n - 0) out) last ≡ (take n lead ++ b) ++ drop e out
-put_two lead b out first last n e long more room is f =
-    let z : n - 0 ≡ n = omega arith in
-    let a = take n lead in
-    let l : length a ≡ n = simp length-take (omega arith) in
-    let g : first ≡ a = rw z at is in
-    let t : take n (a ++ drop n out) ≡ a = take_at a (drop n out) n l in
-    let d : drop n (a ++ drop n out) ≡ drop n out = drop_at a (drop n out) n l in
-    let q : n + (e - n) ≡ e = omega arith in
-    let r : drop (e - n) (drop n out) ≡ drop e out = rw q at (drop-drop (e - n) n out) in
-    rw (z, g, f, t, d, r) (sym (append_assoc a b (drop e out)))
 
 take_min : (k : ℕ) (xs : List ℕ) → take (min k (length xs)) xs ≡ take k xs
 take_min k xs =

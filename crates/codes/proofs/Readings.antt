@@ -1,8 +1,10 @@
 -- Reading codes from the front of bytes: one code after another, complemented codes, codes told apart by their first byte.
-use Rattle.std.proofs.Common.{◌≡◌, ℕ, zero, suc, ◌+◌, ◌<◌, ◌≤◌, ◌⊎◌, List, [], ◌∷◌, ◌++◌, length, take, drop, sym, refl, ap, ◌∙◌, subst, inl, inr, append_assoc, arith, length-append, length-drop}
+use Rattle.std.proofs.Common.{◌≡◌, ℕ, zero, suc, ◌+◌, ◌<◌, ◌≤◌, ◌⊎◌, List, [], ◌∷◌, ◌++◌, length, take, drop, sym, refl, ap, ◌∙◌, subst, inl, inr, append_assoc, arith, length-append, length-drop, Err}
 use Rattle.std.proofs.lemmas.List.{drop_at, take-append-drop, append_cancel_left, take-map, length-map}
 use Rattle.codes.specs.Strings.{Begins, Bytes, flip, flipped}
-use Rattle.codes.specs.Reading.{Starts, Stops}
+use Rattle.codes.specs.Reading.{Starts, Stops, Read}
+use Rattle.codes.specs.declared.unread.Unread.{Unread}
+use Rattle.codes.specs.declared.unread.Unread.TheVariants.{NoCode, NoRoom}
 use Rattle.codes.specs.Orders.{flipped_twice, flipped_append}
 
 -- beginnings
@@ -182,3 +184,11 @@ module _ {S T : Type 0} (CS : S → Type 0) (bs : S → List ℕ) (CT : T → Ty
         let m = from w.0 w.1.0 f.1 (f.2 ∙ ap (λ z. z ∷ f.1) (sym e)) in
         s.3 l (m.0, (m.1.0, subst (λ (z : List ℕ). Begins (take (p + 1) (x ∷ xs)) z) (sym m.1.1) w.1.1)),
   )
+
+-- what was not read as the complement was not read as it stands
+pub flip_unread : {V W M : Type 0} (Coded : M → Type 0) (bytes : M → List ℕ) (within : (m : M) → Coded m → Bytes (bytes m)) (means : V → List ℕ → M) (also : W → List ℕ → M) (spelled : M → List ℕ)
+    (ys xs before after : List ℕ) → xs ≡ flipped ys → ys ≡ flipped xs → (why : Unread) →
+    Read Coded bytes means spelled ys before after (Err why) → Read Coded (λ m. flipped (bytes m)) also spelled xs before after (Err why)
+flip_unread Coded bytes within means also spelled ys xs before after back turn (NoCode p) h = (flip_stops Coded bytes within ys xs p.at back turn h.0, h.1)
+flip_unread Coded bytes within means also spelled ys xs before after back turn NoRoom h =
+    let w = h.0 in ((w.0, w.1, (flip_starts Coded bytes within ys xs w.0 w.1 back w.2.0, w.2.1)), h.1)

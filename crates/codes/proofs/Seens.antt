@@ -24,6 +24,10 @@ pub get_or_seen : (f : Bool) (xs : List ℕ) (i : ℕ) → i < length xs → get
 get_or_seen false xs i h = refl
 get_or_seen true xs i h = get_or-map flip xs i 0 0 h
 
+-- a byte as it is seen stands at its place in the bytes as they are seen
+pub seen_at : (f : Bool) (xs : List ℕ) (i x : ℕ) → i < length xs → x ≡ see_as f (get_or xs i 0) → (i < length (seen_as f xs)) × (get_or (seen_as f xs) i 0 ≡ x)
+seen_at f xs i x h e = (omega (arith, length_seen f xs), get_or_seen f xs i h ∙ sym e)
+
 pub take_seen : (f : Bool) (n : ℕ) (xs : List ℕ) → take n (seen_as f xs) ≡ seen_as f (take n xs)
 take_seen false n xs = refl
 take_seen true n xs = take-map flip n xs
@@ -36,18 +40,6 @@ turn_seen true xs h = sym (flipped_twice xs h)
 pub back_seen : (f : Bool) (xs : List ℕ) → Bytes xs → seen_as f xs ≡ flipped (seen_as (not f) xs)
 back_seen false xs h = sym (flipped_twice xs h)
 back_seen true xs h = refl
-
-pub cons_seen : (f : Bool) (x y : ℕ) (rest xs : List ℕ) → y ≡ see_as f (get_or xs 0 0) → 0 < length xs → rest ≡ take (length xs - 1) (drop 1 xs) → seen_as f xs ≡ y ∷ seen_as f rest
-cons_seen f x y rest [] e h q = absurd (omega arith)
-cons_seen false x y rest (z ∷ zs) e h q =
-    let r : rest ≡ zs = q ∙ take_all (length (z ∷ zs) - 1) zs (omega arith) in cc
-cons_seen true x y rest (z ∷ zs) e h q =
-    let r : rest ≡ zs = q ∙ take_all (length (z ∷ zs) - 1) zs (omega arith) in rw r (ap (λ w. w ∷ flipped zs) (sym e))
-
-pub none_seen : (f : Bool) (xs : List ℕ) → length xs ≡ 0 → seen_as f xs ≡ []
-none_seen false [] h = refl
-none_seen true [] h = refl
-none_seen f (x ∷ xs) h = absurd (omega arith)
 
 -- what stands behind the first bytes
 pub skip_seen : (f : Bool) (xs rest : List ℕ) (n m : ℕ) → m ≡ min n (length xs) → rest ≡ take (length xs - m) (drop m xs) → seen_as f rest ≡ drop n (seen_as f xs)

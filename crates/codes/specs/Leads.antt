@@ -1,19 +1,16 @@
 -- The bytes before a mantissa, and the mantissa, as the writer and the reader hold them.
-use Rattle.std.specs.Prelude.{◌≡◌, ℕ, ◌%◌, ◌<◌, ◌≤◌, List, ◌∷◌, take, ℤ, Some, None, Ok, Err, Option, Result}
+use Rattle.std.specs.Prelude.{◌≡◌, ℕ, ◌%◌, ◌<◌, ◌≤◌, List, ◌∷◌, length, ℤ, Some, None, Ok, Err, Option, Result}
 use Rattle.codes.specs.declared.sign.Sign.{Sign}
 use Rattle.codes.specs.declared.sign.Sign.TheVariants.{Negative, Positive}
 use Rattle.codes.specs.declared.decimal.Decimal.{Decimal}
-use Rattle.codes.specs.declared.code.number.Lead.{Lead}
 use Rattle.codes.specs.declared.code.number.reading.Head.{Head}
-use Rattle.codes.specs.declared.code.number.reading.Digits.{Digits}
+use Rattle.codes.specs.declared.decimal.digits.Digits.{Digits}
+use Rattle.codes.specs.declared.stop.Stop.{Stop}
+use Rattle.inline.specs.Listed.{listed}
 use Rattle.codes.specs.Decimals.{Range, Row, Trim, Shaped}
 use Rattle.codes.specs.Codes.{lead_of, number_code}
 use Rattle.codes.specs.Means.{number_of}
 use Rattle.codes.specs.Reading.{Starts, Stops}
-
--- a lead holds the bytes for this sign and exponent
-abbrev pub LeadIs : Lead → Sign → ℤ → Type 0
-LeadIs l s e = (l.len ≤ 2) × (take l.len l.bytes ≡ lead_of s e)
 
 -- the code of a sign and an exponent: the bytes before a mantissa
 abbrev pub InRange : Sign × ℤ → Type 0
@@ -44,17 +41,17 @@ abbrev pub ExponentByte : ℕ → List ℕ → Option ℕ → Type 0
 ExponentByte least b None = (v : ℕ) (vs : List ℕ) → b ≡ v ∷ vs → least ≤ v → v ≤ 240 → ⊥
 ExponentByte least b (Some v) = (least ≤ v) × (v ≤ 240) × ((vs : List ℕ) × (b ≡ v ∷ vs))
 
-abbrev pub HeadRead : List ℕ → Result Head ℕ → Type 0
-HeadRead b (Ok h) = Starts InRange head_bytes b (h.sign, h.exponent) h.len
-HeadRead b (Err at) = Stops InRange head_bytes b at
+abbrev pub HeadRead : List ℕ → Result Head Stop → Type 0
+HeadRead b (Ok h) = Starts InRange head_bytes b (h.sign, h.exponent.power) h.len
+HeadRead b (Err s) = Stops InRange head_bytes b s.at
 
-abbrev pub DigitsRead : (List ℕ → List ℕ) → List ℕ → Result Digits ℕ → Type 0
-DigitsRead body b (Ok d) = Starts AreDigits body b (take d.count d.digits) d.count × (d.count ≤ 16)
-DigitsRead body b (Err at) = Stops AreDigits body b at
+abbrev pub DigitsRead : (List ℕ → List ℕ) → List ℕ → Result Digits Stop → Type 0
+DigitsRead body b (Ok d) = Starts AreDigits body b (listed d.list) (length (listed d.list))
+DigitsRead body b (Err s) = Stops AreDigits body b s.at
 
-abbrev pub DecimalRead : List ℕ → Result (Decimal × ℕ) ℕ → Type 0
+abbrev pub DecimalRead : List ℕ → Result (Decimal × ℕ) Stop → Type 0
 DecimalRead b (Ok p) = Starts Shaped number_code b (number_of p.0) p.1
-DecimalRead b (Err at) = Stops Shaped number_code b at
+DecimalRead b (Err s) = Stops Shaped number_code b s.at
 
 -- a byte that can stand for the digit behind i others
 abbrev pub Mark : ℕ → ℕ → Type 0

@@ -19,3 +19,11 @@ decimal_answer s e ds =
     cond (plain_digits ds)
     (cond (nat_le (length ds) 16) (cond (nat_le (unsigned_abs e) 240) (gives (amount s e ds)) (refuses 3 [])) (refuses 2 []))
     (refuses 1 [])
+
+-- the digits of a decimal: 1 and 2 in turn
+abbrev pub digits_answer : List ℕ → Answer (List ℕ)
+digits_answer ds = cond (plain_digits ds) (cond (nat_le (length ds) 16) (gives ds) (refuses 2 [])) (refuses 1 [])
+
+-- the exponent of a decimal: 3
+abbrev pub exponent_answer : ℤ → Answer ℤ
+exponent_answer e = cond (nat_le (unsigned_abs e) 240) (gives e) (refuses 3 [])

@@ -1,5 +1,6 @@
 -- What the values of the code stand for.
 use Rattle.std.specs.Prelude.{ℕ, List, take, drop}
+use Rattle.inline.specs.Listed.{listed}
 use Rattle.codes.specs.declared.decimal.Decimal.{Decimal}
 use Rattle.codes.specs.declared.decimal.Decimal.TheVariants.{Zero, Amount}
 use Rattle.codes.specs.declared.value.Text.{Text}
@@ -10,7 +11,7 @@ use Rattle.codes.specs.Values.{Datum, null, decimal, text}
 
 abbrev pub number_of : Decimal → Number
 number_of Zero = naught
-number_of (Amount a) = amount a.sign a.exponent (take a.count a.digits)
+number_of (Amount a) = amount a.sign a.exponent.power (listed a.digits.list)
 
 -- the bytes of a text, in those that are lent beside it: what there is of them
 abbrev pub text_of : Text → List ℕ → List ℕ

@@ -22,6 +22,6 @@ module _ {M : Type 0} (Coded : M → Type 0) (bytes : M → List ℕ) where
 abbrev pub Read : {V M : Type 0} (Coded : M → Type 0) (bytes : M → List ℕ) (means : V → List ℕ → M) (spelled : M → List ℕ) → List ℕ → List ℕ → List ℕ → Result (V × ℕ) Unread → Type 0
 Read Coded bytes means spelled b before after (Ok p) =
     Starts Coded bytes b (means p.0 after) p.1 × (after ≡ spelled (means p.0 after) ++ drop (length (spelled (means p.0 after))) before)
-Read Coded bytes means spelled b before after (Err (NoCode at)) = Stops Coded bytes b at × (after ≡ before)
+Read Coded bytes means spelled b before after (Err (NoCode s)) = Stops Coded bytes b s.at × (after ≡ before)
 Read {V} {M} Coded bytes means spelled b before after (Err NoRoom) =
     ((m : M) × (n : ℕ) × (Starts Coded bytes b m n × (length before < length (spelled m)))) × (after ≡ before)

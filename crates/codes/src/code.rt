@@ -65,6 +65,6 @@ pub(crate) fn complement(bytes: &mut [u8])
     ensures { bytes.new ≡ flipped bytes.old }
 {
     for b in bytes.iter_mut() {
-        *b = 255 - *b;
+        *b = !*b;
     }
 }

@@ -1,5 +1,8 @@
+ghost use Rattle.std.specs.Prelude.{◌≡◌};
 ghost use Rattle.codes.specs.Refusals.{key_told};
+ghost use Rattle.codes.specs.declared.fault.KeyFault.TheVariants.{NoKey};
 
+use crate::stop::Stop;
 use refusals::{Refusal, Refused};
 
 // What a call of this crate refuses by.
@@ -40,5 +43,13 @@ impl Refusal for KeyFault {
             KeyFault::NoKey(at) => Refused::new(7, &[*at]),
             KeyFault::Room => Refused::new(8, &[]),
         }
+    }
+}
+
+impl From<Stop> for KeyFault {
+    ghost from_gives = { λ s r. r ≡ NoKey s.at };
+
+    fn from(stop: Stop) -> KeyFault {
+        KeyFault::NoKey(stop.at)
     }
 }

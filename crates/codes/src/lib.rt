@@ -7,6 +7,7 @@ mod decimal;
 mod fault;
 mod sign;
 mod source;
+mod stop;
 mod unread;
 mod value;
 
@@ -17,5 +18,6 @@ pub use decimal::{Amount, Decimal};
 pub use fault::KeyFault;
 pub use sign::Sign;
 pub use source::Source;
+pub use stop::Stop;
 pub use unread::Unread;
 pub use value::{Text, Value};

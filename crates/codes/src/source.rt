@@ -1,10 +1,10 @@
-ghost use Rattle.std.specs.Prelude.{◌≡◌, ◌<◌, ◌≤◌, ◌++◌, length, take, drop, MatchOption, slice_index};
+ghost use Rattle.std.specs.Prelude.{◌≡◌, ◌<◌, ◌≤◌, ◌++◌, length, take, drop};
 ghost use Rattle.codes.specs.Strings.{Bytes, flipped};
 ghost use Rattle.codes.specs.Sources.{FirstZero, Split, see_as, seen, seen_as};
 
 use crate::code::complement;
 
-// Bytes to read from, complemented in a column that descends.
+// Bytes to read from, complemented in a column that descends. A flag, and no enum of two cases: each call treats both alike, but for how a byte is seen.
 #[derive(Clone, Copy)]
 pub struct Source<'a> {
     pub(crate) bytes: &'a [u8],
@@ -12,10 +12,10 @@ pub struct Source<'a> {
 }
 
 // A byte as it is seen.
-fn see(flipped: bool, b: u8) -> u8
+pub(crate) fn see(flipped: bool, b: u8) -> u8
     ensures { result ≡ see_as flipped b }
 {
-    if flipped { 255 - b } else { b }
+    if flipped { !b } else { b }
 }
 
 // The bytes themselves, of which each is below 256.
@@ -93,26 +93,14 @@ impl<'a> Source<'a> {
         }
     }
 
-    // The byte at a place.
-    pub(crate) fn at(self, i: usize) -> Option<u8>
-        ensures { MatchOption result (length (seen self.entry) ≤ i) (λ b. (i < length (seen self.entry)) × (b ≡ slice_index (seen self.entry) i)) }
-    {
-        if i >= self.bytes.len() {
-            return None;
-        }
-        Some(see(self.flipped, self.bytes[i]))
-    }
-
     // The place of the first byte 00.
     pub(crate) fn zero(self) -> Option<usize>
         ensures { FirstZero (seen self.entry) result }
     {
-        for i in 0..self.bytes.len() {
-            if see(self.flipped, self.bytes[i]) == 0 {
-                return Some(i);
-            }
-        }
-        None
+        let flipped = self.flipped;
+        octets(self.bytes)
+            .iter()
+            .position(|b| see(flipped, *b) == 0)
     }
 
     // Copies the first `n` bytes to the front of the output.

@@ -7,11 +7,12 @@ ghost use Rattle.codes.specs.ReadValues.{ValueRead};
 ghost use Rattle.codes.specs.Sources.{seen};
 ghost use Rattle.codes.specs.Data.{datum_laws};
 
-use crate::class::{Kind, class_of};
+use crate::class::{Class, class_of};
 use crate::code::ColumnCode;
 use crate::code::null::Null;
 use crate::code::number::reading::read_decimal;
 use crate::source::Source;
+use crate::stop::Stop;
 use crate::unread::Unread;
 use crate::value::{Text, Value};
 
@@ -50,13 +51,11 @@ impl ColumnCode for Value {
     }
 
     fn read(source: Source, texts: &mut [u8]) -> Result<(Value, usize), Unread> {
-        let Some((first, _)) = source.split() else {
-            return Err(Unread::NoCode(0));
-        };
-        match class_of(first).kind {
-            Kind::Foreign => Err(Unread::NoCode(0)),
-            Kind::Null => Ok((Value::Null, 1)),
-            Kind::Text => read_text(source, texts),
+        let (first, _) = source.split().ok_or(Stop { at: 0 })?;
+        match class_of(first) {
+            Class::Foreign => Err(Unread::NoCode(Stop { at: 0 })),
+            Class::Null => Ok((Value::Null, 1)),
+            Class::Text => read_text(source, texts),
             _ => read_number(source),
         }
     }
@@ -66,18 +65,14 @@ impl ColumnCode for Value {
 fn read_text(source: Source, texts: &mut [u8]) -> Result<(Value, usize), Unread>
     ensures { (xs : List ℕ) → seen source.entry ≡ 0x24 ∷ xs → Read Valid datum_code datum_of spelled_in (seen source.entry) texts.old texts.new result }
 {
-    match Text::read(source, texts) {
-        Ok((text, n)) => Ok((Value::Text(text), n)),
-        Err(why) => Err(why),
-    }
+    let (text, n) = Text::read(source, texts)?;
+    Ok((Value::Text(text), n))
 }
 
 // A decimal, as a value.
 fn read_number(source: Source) -> Result<(Value, usize), Unread>
     ensures { (x : ℕ) (xs : List ℕ) → seen source.entry ≡ x ∷ xs → (x ≢ 0x05) → (x ≢ 0x24) → ValueRead (seen source.entry) result }
 {
-    match read_decimal(source) {
-        Ok((decimal, n)) => Ok((Value::Decimal(decimal), n)),
-        Err(at) => Err(Unread::NoCode(at)),
-    }
+    let (decimal, n) = read_decimal(source)?;
+    Ok((Value::Decimal(decimal), n))
 }

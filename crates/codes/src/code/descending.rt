@@ -31,20 +31,13 @@ impl<V: ColumnCode> ColumnCode for Descending<V> {
     }
 
     fn put(&self, texts: &[u8], out: &mut [u8]) -> Option<usize> {
-        let Some(n) = self.0.put(texts, out) else {
-            return None;
-        };
+        let n = self.0.put(texts, out)?;
         complement(&mut out[0..n]);
         Some(n)
     }
 
     fn read(source: Source, texts: &mut [u8]) -> Result<(Descending<V>, usize), Unread> {
-        match V::read(source.turned(), texts) {
-            Ok((value, n)) => Ok((Descending(value), n)),
-            Err(why) => match why {
-                Unread::NoCode(at) => Err(Unread::NoCode(at)),
-                Unread::NoRoom => Err(Unread::NoRoom),
-            },
-        }
+        let (value, n) = V::read(source.turned(), texts)?;
+        Ok((Descending(value), n))
     }
 }

@@ -4,6 +4,7 @@ ghost use Rattle.codes.specs.Nulls.{null_laws};
 
 use crate::code::{ColumnCode, put_front};
 use crate::source::Source;
+use crate::stop::Stop;
 use crate::unread::Unread;
 
 // The value of a column that has none.
@@ -38,7 +39,7 @@ impl ColumnCode for Null {
     fn read(source: Source, _texts: &mut [u8]) -> Result<(Null, usize), Unread> {
         match source.split() {
             Some((0x05, _)) => Ok((Null, 1)),
-            _ => Err(Unread::NoCode(0)),
+            _ => Err(Unread::NoCode(Stop { at: 0 })),
         }
     }
 }

@@ -1,91 +1,54 @@
-ghost use Rattle.std.specs.Prelude.{◌≡◌, ◌+◌, ◌≤◌, true, [], ◌++◌, length, take};
-ghost use Rattle.codes.specs.Decimals.{Number, Range, Row, Shaped, Smaller};
+ghost use Rattle.std.specs.Prelude.{◌≡◌, ◌+◌, true, [], length};
+ghost use Rattle.inline.specs.Listed.{listed};
+ghost use Rattle.codes.specs.Decimals.{Number, Shaped, Smaller};
 ghost use Rattle.codes.specs.Codes.{lead_of, body_of, mantissa, number_code};
 ghost use Rattle.codes.specs.Laws.{Put};
 ghost use Rattle.codes.specs.Means.{number_of};
-ghost use Rattle.codes.specs.Leads.{LeadIs};
-ghost use Rattle.codes.specs.declared.sign.Sign.TheVariants.{Negative, Positive};
 ghost use Rattle.codes.specs.Numbers.{number_laws};
+ghost use Rattle.codes.specs.declared.sign.Sign.TheVariants.{Positive};
 
 use crate::code::{ColumnCode, complement, put_front};
-use crate::decimal::{Amount, Decimal};
+use crate::decimal::{Amount, Decimal, Digits, Exponent};
 use crate::sign::Sign;
 use crate::source::Source;
 use crate::unread::Unread;
+use inline::Inline;
 
 pub mod reading;
 
 use reading::read_decimal;
 
-// The one or two bytes before a mantissa.
-#[derive(Clone, Copy)]
-struct Lead {
-    bytes: [u8; 2],
-    len: usize,
-}
-
-// The bytes before the mantissa of a positive decimal.
-fn positive_lead(e: i32) -> Lead
-    requires { Range e }
-    ensures { LeadIs result Positive e }
+// The one or two bytes before the digits' bytes. The casts lose nothing, which is proved; a `try_from` would need an answer for what cannot be.
+fn lead(sign: Sign, exponent: Exponent) -> Inline<u8, 2>
+    ensures { listed result ≡ lead_of sign exponent.power }
 {
-    if e < 0 {
-        Lead {
-            bytes: [0x16, (255 + e) as u8],
-            len: 2,
-        }
-    } else if e <= 10 {
-        Lead {
-            bytes: [(0x17 + e) as u8, 0],
-            len: 1,
-        }
-    } else {
-        Lead {
-            bytes: [0x22, e as u8],
-            len: 2,
-        }
-    }
-}
-
-// The bytes before the mantissa of a negative decimal.
-fn negative_lead(e: i32) -> Lead
-    requires { Range e }
-    ensures { LeadIs result Negative e }
-{
-    if e < 0 {
-        Lead {
-            bytes: [0x14, (-e) as u8],
-            len: 2,
-        }
-    } else if e <= 10 {
-        Lead {
-            bytes: [(0x13 - e) as u8, 0],
-            len: 1,
-        }
-    } else {
-        Lead {
-            bytes: [0x08, (255 - e) as u8],
-            len: 2,
-        }
+    let e = exponent.power;
+    match sign {
+        Sign::Positive if e < 0 => Inline::from_front(&[0x16, (255 + e) as u8]),
+        Sign::Positive if e <= 10 => Inline::from_front(&[(0x17 + e) as u8]),
+        Sign::Positive => Inline::from_front(&[0x22, e as u8]),
+        Sign::Negative if e < 0 => Inline::from_front(&[0x14, (-e) as u8]),
+        Sign::Negative if e <= 10 => Inline::from_front(&[(0x13 - e) as u8]),
+        Sign::Negative => Inline::from_front(&[0x08, (255 - e) as u8]),
     }
 }
 
 // Writes a byte for each digit.
-fn put_mantissa(digits: &[u8], out: &mut [u8])
-    requires { (Row digits.now) × (length out.old ≡ length digits.now) }
-    ensures { out.new ≡ mantissa digits.now }
+fn put_mantissa(digits: &Digits, out: &mut [u8])
+    requires { length out.old ≡ length (listed digits.now.list) }
+    ensures { out.new ≡ mantissa (listed digits.now.list) }
 {
-    let last = digits.len() - 1;
-    for i in 0..digits.len() {
-        let more = if i < last { 1 } else { 0 };
-        out[i] = 2 * digits[i] + more;
+    let list = digits.list.as_slice();
+    let last = list.len() - 1;
+    for (i, digit) in list.iter().enumerate() {
+        out[i] = 2 * *digit + u8::from(i < last);
     }
 }
 
 // Writes a byte for each digit, complemented for a negative decimal.
-fn put_body(sign: Sign, digits: &[u8], out: &mut [u8])
-    requires { (Row digits.now) × (length out.old ≡ length digits.now) }
-    ensures { out.new ≡ body_of sign digits.now }
+fn put_body(sign: Sign, digits: &Digits, out: &mut [u8])
+    requires { length out.old ≡ length (listed digits.now.list) }
+    ensures { out.new ≡ body_of sign (listed digits.now.list) }
 {
     put_mantissa(digits, out);
     match sign {
@@ -94,27 +57,28 @@ fn put_body(sign: Sign, digits: &[u8], out: &mut [u8])
     }
 }
 
-// Writes a lead and the digits' bytes.
-fn put_amount(lead: Lead, sign: Sign, digits: &[u8], out: &mut [u8]) -> Option<usize>
-    requires { (Row digits.now) × (lead.len ≤ 2) }
-    ensures { Put (take lead.len lead.bytes ++ body_of sign digits.now) out.old out.new result }
+// Writes a decimal other than zero.
+fn put_amount(amount: &Amount, out: &mut [u8]) -> Option<usize>
+    ensures { Put (number_code (number_of (Decimal.Amount amount.now))) out.old out.new result }
 {
-    let start = lead.len;
-    let end = start + digits.len();
+    let lead = lead(amount.sign, amount.exponent);
+    let lead = lead.as_slice();
+    let start = lead.len();
+    let end = start + amount.digits.list.as_slice().len();
     if out.len() < end {
         return None;
     }
-    out[0..start].copy_from_slice(&lead.bytes[0..start]);
-    put_body(sign, digits, &mut out[start..end]);
+    out[0..start].copy_from_slice(lead);
+    put_body(amount.sign, &amount.digits, &mut out[start..end]);
     Some(end)
 }
 
-// The length of an amount's code.
-fn amount_size(exponent: i32, count: usize) -> usize
-    requires { (Range exponent) × (count ≤ 16) }
-    ensures { result ≡ length (lead_of Positive exponent) + count }
+// The length of the code of a decimal other than zero.
+fn amount_size(amount: &Amount) -> usize
+    ensures { result ≡ length (lead_of Positive amount.now.exponent.power) + length (listed amount.now.digits.list) }
 {
-    if exponent < 0 || exponent > 10 {
+    let count = amount.digits.list.as_slice().len();
+    if amount.exponent.power < 0 || amount.exponent.power > 10 {
         count + 2
     } else {
         count + 1
@@ -141,27 +105,18 @@ impl ColumnCode for Decimal {
     fn size(&self, _texts: &[u8]) -> Option<usize> {
         match *self {
             Decimal::Zero => Some(1),
-            Decimal::Amount(a) => Some(amount_size(a.exponent, a.count)),
+            Decimal::Amount(amount) => Some(amount_size(&amount)),
         }
     }
 
     fn put(&self, _texts: &[u8], out: &mut [u8]) -> Option<usize> {
         match *self {
             Decimal::Zero => put_front(&[0x15], out),
-            Decimal::Amount(a) => {
-                let lead = match a.sign {
-                    Sign::Positive => positive_lead(a.exponent),
-                    Sign::Negative => negative_lead(a.exponent),
-                };
-                put_amount(lead, a.sign, &a.digits[0..a.count], out)
-            }
+            Decimal::Amount(amount) => put_amount(&amount, out),
         }
     }
 
     fn read(source: Source, _texts: &mut [u8]) -> Result<(Decimal, usize), Unread> {
-        match read_decimal(source) {
-            Ok(read) => Ok(read),
-            Err(at) => Err(Unread::NoCode(at)),
-        }
+        Ok(read_decimal(source)?)
     }
 }

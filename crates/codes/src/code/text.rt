@@ -8,6 +8,7 @@ ghost use Rattle.codes.specs.Texts.{text_laws};
 
 use crate::code::{ColumnCode, put_front};
 use crate::source::Source;
+use crate::stop::Stop;
 use crate::unread::Unread;
 use crate::value::Text;
 
@@ -16,21 +17,7 @@ fn has_no_zero(bytes: &[u8]) -> bool
     ensures test { result ≡ no_zero bytes.now }
     ensures each { result ≡ true → TextBytes bytes.now }
 {
-    for b in bytes {
-        if *b == 0 {
-            return false;
-        }
-    }
-    true
-}
-
-// The bytes of a text: what there is of them, if they pass the end of the lent bytes.
-fn bytes_of(text: Text, texts: &[u8]) -> &[u8]
-    ensures { result.now ≡ text_of text texts.now }
-{
-    let start = text.start.min(texts.len());
-    let len = text.len.min(texts.len() - start);
-    &texts[start..start + len]
+    bytes.iter().all(|b| *b != 0)
 }
 
 // Writes a text's bytes between its first byte and its last.
@@ -48,11 +35,20 @@ fn put_text(bytes: &[u8], out: &mut [u8]) -> Option<usize>
 }
 
 impl Text {
+    // Its bytes, in those that are lent beside it: what there is of them, if they pass the end.
+    pub fn bytes(self, texts: &[u8]) -> &[u8]
+        ensures { result.now ≡ text_of self texts.now }
+    {
+        let start = self.start.min(texts.len());
+        let len = self.len.min(texts.len() - start);
+        &texts[start..start + len]
+    }
+
     // Writes the text's bytes to the front of the output and answers their number, or None where there is no room.
     pub fn put_bytes(self, texts: &[u8], out: &mut [u8]) -> Option<usize>
         ensures { Put (text_of self texts.now) out.old out.new result }
     {
-        put_front(bytes_of(self, texts), out)
+        put_front(self.bytes(texts), out)
     }
 }
 
@@ -74,7 +70,7 @@ impl ColumnCode for Text {
     ghost lawful = { text_laws };
 
     fn size(&self, texts: &[u8]) -> Option<usize> {
-        let bytes = bytes_of(*self, texts);
+        let bytes = self.bytes(texts);
         if !has_no_zero(bytes) {
             return None;
         }
@@ -82,19 +78,14 @@ impl ColumnCode for Text {
     }
 
     fn put(&self, texts: &[u8], out: &mut [u8]) -> Option<usize> {
-        put_text(bytes_of(*self, texts), out)
+        put_text(self.bytes(texts), out)
     }
 
     fn read(source: Source, texts: &mut [u8]) -> Result<(Text, usize), Unread> {
-        let Some((first, rest)) = source.split() else {
-            return Err(Unread::NoCode(0));
+        let Some((0x24, rest)) = source.split() else {
+            return Err(Unread::NoCode(Stop { at: 0 }));
         };
-        if first != 0x24 {
-            return Err(Unread::NoCode(0));
-        }
-        let Some(len) = rest.zero() else {
-            return Err(Unread::NoCode(rest.len() + 1));
-        };
+        let len = rest.zero().ok_or(Stop { at: rest.len() + 1 })?;
         if len > texts.len() {
             return Err(Unread::NoRoom);
         }

@@ -1,4 +1,5 @@
-ghost use Rattle.std.specs.Prelude.{◌≡◌, take};
+ghost use Rattle.std.specs.Prelude.{◌≡◌};
+ghost use Rattle.inline.specs.Listed.{listed};
 
 use crate::decimal::Amount;
 use crate::sign::Sign;
@@ -12,15 +13,15 @@ impl Amount {
     }
 
     pub fn exponent(&self) -> i32
-        ensures { result ≡ self.now.exponent }
+        ensures { result ≡ self.now.exponent.power }
     {
-        self.exponent
+        self.exponent.power
     }
 
     // The digits in base 100, the first one first.
     pub fn digits(&self) -> &[u8]
-        ensures { result.now ≡ take self.now.count self.now.digits }
+        ensures { result.now ≡ listed self.now.digits.list }
     {
-        &self.digits[0..self.count]
+        self.digits.list.as_slice()
     }
 }

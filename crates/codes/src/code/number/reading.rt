@@ -1,37 +1,28 @@
-ghost use Rattle.std.specs.Prelude.{◌≡◌, ℕ, ◌<◌, ◌≤◌, List, ◌∷◌, take, Decides, ◌≢◌};
+ghost use Rattle.std.specs.Prelude.{◌≡◌, ℕ, ◌<◌, ◌≤◌, List, ◌∷◌, Decides, ◌≢◌};
 ghost use Rattle.codes.specs.Codes.{body_of, mantissa};
-ghost use Rattle.codes.specs.Decimals.{Range, amount};
-ghost use Rattle.codes.specs.Leads.{AreDigits, DecimalRead, DigitsRead, ExponentByte, HeadRead, Mark, far_byte, other_sign, small_byte};
-ghost use Rattle.codes.specs.Means.{number_of};
+ghost use Rattle.codes.specs.Leads.{DecimalRead, DigitsRead, ExponentByte, HeadRead, Mark, other_sign};
 ghost use Rattle.codes.specs.Sources.{Through, seen};
 
-use crate::class::{Kind, class_of};
-use crate::decimal::{Amount, Decimal};
+use crate::class::{Class, class_of};
+use crate::decimal::{Amount, Decimal, Digits, Exponent};
 use crate::sign::Sign;
-use crate::source::Source;
+use crate::source::{Source, see};
+use crate::stop::Stop;
+use inline::Inline;
 
 // A decimal's sign and exponent, and how many bytes told them.
 #[derive(Clone, Copy)]
 pub struct Head {
     sign: Sign,
-    exponent: i32,
+    exponent: Exponent,
     len: usize,
-}
-
-// A decimal's digits.
-#[derive(Clone, Copy)]
-pub struct Digits {
-    digits: [u8; 16],
-    count: usize,
 }
 
 // An exponent from `least` to 240 in the first byte.
 fn exponent_byte(source: Source, least: u8) -> Option<u8>
     ensures { ExponentByte least (seen source.entry) result }
 {
-    let Some((v, _)) = source.split() else {
-        return None;
-    };
+    let (v, _) = source.split()?;
     if v < least || v > 240 {
         return None;
     }
@@ -58,51 +49,40 @@ fn opposite(sign: Sign) -> Sign
     }
 }
 
-// The exponent of 11 or more behind the byte that announces it.
-fn far_head(sign: Sign, rest: Source) -> Result<Head, usize>
-    ensures { HeadRead (far_byte sign ∷ seen rest.entry) result }
-{
-    let Some(v) = exponent_byte(signed(sign, rest), 11) else {
-        return Err(1);
-    };
-    Ok(Head {
-        sign,
-        exponent: v as i32,
-        len: 2,
-    })
-}
-
-// The exponent below 0 behind the byte that announces it.
-fn small_head(sign: Sign, rest: Source) -> Result<Head, usize>
-    ensures { HeadRead (small_byte sign ∷ seen rest.entry) result }
-{
-    let Some(v) = exponent_byte(signed(opposite(sign), rest), 1) else {
-        return Err(1);
-    };
-    Ok(Head {
-        sign,
-        exponent: -(v as i32),
-        len: 2,
-    })
-}
-
 // The sign and the exponent at the front of a decimal other than zero.
-fn read_head(source: Source) -> Result<Head, usize>
+fn read_head(source: Source) -> Result<Head, Stop>
     ensures { HeadRead (seen source.entry) result }
 {
-    let Some((first, rest)) = source.split() else {
-        return Err(0);
-    };
-    let class = class_of(first);
-    match class.kind {
-        Kind::Near => Ok(Head {
-            sign: class.sign,
-            exponent: class.exponent as i32,
+    let (first, rest) = source.split().ok_or(Stop { at: 0 })?;
+    match class_of(first) {
+        Class::Near(sign, exponent) => Ok(Head {
+            sign,
+            exponent: Exponent {
+                power: i32::from(exponent),
+            },
             len: 1,
         }),
-        Kind::Far => far_head(class.sign, rest),
-        Kind::Small => small_head(class.sign, rest),
-        _ => Err(0),
+        Class::Far(sign) => {
+            let v = exponent_byte(signed(sign, rest), 11).ok_or(Stop { at: 1 })?;
+            Ok(Head {
+                sign,
+                exponent: Exponent {
+                    power: i32::from(v),
+                },
+                len: 2,
+            })
+        }
+        Class::Small(sign) => {
+            let v = exponent_byte(signed(opposite(sign), rest), 1).ok_or(Stop { at: 1 })?;
+            Ok(Head {
+                sign,
+                exponent: Exponent {
+                    power: -i32::from(v),
+                },
+                len: 2,
+            })
+        }
+        _ => Err(Stop { at: 0 }),
     }
 }
 
@@ -114,77 +94,54 @@ fn is_mark(i: usize, b: u8) -> bool
 }
 
 // The digits of a mantissa.
-fn read_mantissa(source: Source) -> Result<Digits, usize>
+fn read_mantissa(source: Source) -> Result<Digits, Stop>
     ensures { DigitsRead mantissa (seen source.entry) result }
 {
-    let mut digits = [0u8; 16];
-    for i in 0..16 {
-        let Some(b) = source.at(i) else {
-            return Err(i);
-        };
+    let mut list = Inline::new();
+    for (i, byte) in source.bytes.iter().enumerate() {
+        let b = see(source.flipped, *byte);
         if !is_mark(i, b) {
-            return Err(i);
+            return Err(Stop { at: i });
         }
-        digits[i] = b / 2;
+        let Ok(()) = list.push(b / 2) else {
+            unreachable()
+        };
         if b % 2 == 0 {
-            return Ok(Digits {
-                digits,
-                count: i + 1,
-            });
+            return Ok(Digits { list });
         }
     }
-    unreachable()
+    Err(Stop { at: source.len() })
 }
 
 // The digits of a decimal of this sign.
-fn read_body(sign: Sign, source: Source) -> Result<Digits, usize>
+fn read_body(sign: Sign, source: Source) -> Result<Digits, Stop>
     ensures { DigitsRead (body_of sign) (seen source.entry) result }
 {
     read_mantissa(signed(sign, source))
 }
 
-// The amount with these parts.
-fn amount_of(head: Head, body: Digits) -> Amount
-    requires count { body.count ≤ 16 }
-    requires range { Range head.exponent }
-    requires digits { AreDigits (take body.count body.digits) }
-    ensures { number_of (Decimal.Amount result) ≡ amount head.sign head.exponent (take body.count body.digits) }
-{
-    let digits = body.digits;
-    Amount {
-        sign: head.sign,
-        exponent: head.exponent,
-        count: body.count,
-        digits,
-    }
-}
-
 // A decimal other than zero.
-fn read_amount(source: Source) -> Result<(Decimal, usize), usize>
+fn read_amount(source: Source) -> Result<(Decimal, usize), Stop>
     ensures { (x : ℕ) (xs : List ℕ) → seen source.entry ≡ x ∷ xs → (x ≢ 0x15) → DecimalRead (seen source.entry) result }
 {
-    let head = match read_head(source) {
-        Ok(head) => head,
-        Err(at) => return Err(at),
+    let head = read_head(source)?;
+    let digits = read_body(head.sign, source.skip(head.len)).map_err(|stop| stop.behind(head.len))?;
+    let len = head.len + digits.list.as_slice().len();
+    let amount = Amount {
+        sign: head.sign,
+        exponent: head.exponent,
+        digits,
     };
-    match read_body(head.sign, source.skip(head.len)) {
-        Ok(body) => Ok((
-            Decimal::Amount(amount_of(head, body)),
-            head.len + body.count,
-        )),
-        Err(at) => Err(head.len + at),
-    }
+    Ok((Decimal::Amount(amount), len))
 }
 
 // A decimal.
-pub(crate) fn read_decimal(source: Source) -> Result<(Decimal, usize), usize>
+pub(crate) fn read_decimal(source: Source) -> Result<(Decimal, usize), Stop>
     ensures { DecimalRead (seen source.entry) result }
 {
-    let Some((first, _)) = source.split() else {
-        return Err(0);
-    };
-    match class_of(first).kind {
-        Kind::Zero => Ok((Decimal::Zero, 1)),
+    let (first, _) = source.split().ok_or(Stop { at: 0 })?;
+    match class_of(first) {
+        Class::Zero => Ok((Decimal::Zero, 1)),
         _ => read_amount(source),
     }
 }

@@ -1,22 +1,14 @@
-use Rattle.std.proofs.Common.{◌+◌, ◌*◌, ◌≤◌, length, get_or, sym, ◌∙◌, arith}
-use Rattle.std.proofs.lemmas.List.{take_all}
-use Rattle.codes.specs.Codes.{mantissa}
-use Rattle.codes.proofs.Marks.{marked, mark_at, length_mantissa}
+use Rattle.std.proofs.Common.{◌+◌, ◌*◌, get_or, arith}
+use Rattle.inline.specs.Listed.{listed}
+use Rattle.codes.proofs.Marks.{marked, mark_byte}
 use Rattle.codes.proofs.code.number.put_mantissa.Goals as goal
-use Rattle.codes.proofs.code.number.put_mantissa.Goals.{then-i-last, else-i-last}
 
 pub loop-i-preserved : goal.loop-i-preserved
 loop-i-preserved c =
-    let ds = c.args.digits.now in
+    let ds = listed c.args.digits.now.list in
     let i = c.loop-i.i in
-    let m = mark_at ds i c.loop-i-test.true in
-    marked ds c.loop-i.out i (2 * get_or ds i 0 + c.if-i-last.more) c.loop-i-test.true (omega arith) c.loop-i.invariant
-    (elim c.if-i-last.branch [ then-i-last w ↦ omega (arith, w.more-is, m.0 w.if-i-last.true) | else-i-last w ↦ omega (arith, w.more-is, m.1 w.if-i-last.false) ])
-
-pub returns : goal.returns
-returns c =
-    let ds = c.args.digits.now in
-    let i = c.loop-i.i in
-    let a : length c.loop-i.out ≤ i = omega arith in
-    let b : length (mantissa ds) ≤ i = omega (arith, length_mantissa ds) in
-    sym (take_all i c.loop-i.out a) ∙ c.loop-i.invariant ∙ take_all i (mantissa ds) b
+    let v = c.as_slice-list.ensures.values in
+    let h = rw v at c.loop-i-test.true in
+    let f = rw v at c.from.ensures in
+    rw v
+    (marked ds c.loop-i.out i (2 * get_or ds i 0 + c.from.result) h (omega arith) c.loop-i.invariant (mark_byte ds i c.from.result h f))

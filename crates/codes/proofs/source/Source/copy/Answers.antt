@@ -1,11 +1,7 @@
-use Rattle.std.proofs.Common.{◌≡◌, ◌-◌, ◌≤◌, ◌++◌, length, take, drop, sym, ap, ◌∙◌, arith, rules}
+use Rattle.std.proofs.Common.{◌≡◌, ◌-◌, ◌++◌, take, drop, sym, ap, ◌∙◌, arith}
 use Rattle.codes.specs.Sources.{seen}
-use Rattle.codes.proofs.Seens.{length_seen, take_seen}
+use Rattle.codes.proofs.Seens.{take_seen}
 use Rattle.codes.proofs.source.Source.copy.Goals as goal
-
-pub slice_bounds-copy_seen-end : goal.slice_bounds-copy_seen-end
-slice_bounds-copy_seen-end c =
-    let h : c.args.n ≤ length c.args.self.bytes.now = omega (arith, length_seen c.args.self.flipped c.args.self.bytes.now) in search rules
 
 pub returns : goal.returns
 returns c =

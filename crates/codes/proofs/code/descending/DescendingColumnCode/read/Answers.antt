@@ -1,22 +1,15 @@
+use Rattle.codes.specs.declared.code.descending.Descending.{Descending}
+use Rattle.codes.specs.Strings.{flipped}
+use Rattle.codes.specs.Reading.{Read}
 use Rattle.codes.specs.Sources.{seen}
-use Rattle.codes.proofs.Readings.{flip_starts, flip_stops}
+use Rattle.codes.proofs.Exits.{exit_same}
+use Rattle.codes.proofs.Readings.{flip_unread}
 use Rattle.codes.proofs.code.descending.DescendingColumnCode.read.Goals as goal
 
-pub returns-in-Ok : goal.returns-in-Ok
-returns-in-Ok g c =
+pub returns-in_err-value : goal.returns-in_err-value
+returns-in_err-value g c =
     let v = g.V.ColumnCode in
-    let h = c.in-Ok.ensures in
-    (flip_starts v.Coded v.bytes g.met.V.ColumnCode.lawful.within (seen c.turned.result) (seen c.args.source) (v.means c.in-Ok.value c.read.new.texts) c.in-Ok.n c.turned.ensures.back h.0, h.1)
-
-pub returns-in-NoCode : goal.returns-in-NoCode
-returns-in-NoCode g c =
-    let v = g.V.ColumnCode in
-    let h = rw c.in-NoCode.is at c.in-Err.ensures in
-    (flip_stops v.Coded v.bytes g.met.V.ColumnCode.lawful.within (seen c.turned.result) (seen c.args.source) c.in-NoCode.at c.turned.ensures.back c.turned.ensures.turn h.0, h.1)
-
-pub returns-in-NoRoom : goal.returns-in-NoRoom
-returns-in-NoRoom g c =
-    let v = g.V.ColumnCode in
-    let h = rw c.in-NoRoom.is at c.in-Err.ensures in
-    let w = h.0 in
-    ((w.0, w.1, (flip_starts v.Coded v.bytes g.met.V.ColumnCode.lawful.within (seen c.turned.result) (seen c.args.source) w.0 w.1 c.turned.ensures.back w.2.0, w.2.1)), h.1)
+    let d = c.in_err-value.field-0.0 in
+    exit_same (Read v.Coded (λ m. flipped (v.bytes m)) (λ d. v.means d.0) v.spelled (seen c.args.source) c.args.texts.now c.read.new.texts) c.from_residual.result d c.from_residual.ensures.1
+    (flip_unread {W = Descending g.row.V.Denot} v.Coded v.bytes g.met.V.ColumnCode.lawful.within v.means (λ d. v.means d.0) v.spelled (seen c.turned.result) (seen c.args.source) c.args.texts.now c.read.new.texts
+    c.turned.ensures.back c.turned.ensures.turn d c.in_err-value.ensures)

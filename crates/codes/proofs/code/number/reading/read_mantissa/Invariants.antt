@@ -1,7 +1,8 @@
 use Rattle.std.proofs.Common.{◌≡◌, ◌<◌, length}
+use Rattle.inline.specs.Listed.{listed}
 use Rattle.codes.specs.Sources.{seen}
 use Rattle.codes.proofs.Mantissas.{Onward}
 use Rattle.codes.proofs.code.number.reading.read_mantissa.Given as goal
 
 abbrev pub invariant-loop-i : goal.invariant-loop-i
-invariant-loop-i l = (l.i < 16) × (length l.digits ≡ 16) × Onward (seen l.source) l.i l.digits
+invariant-loop-i l = (l.i < 16) × (length (listed l.list) ≡ l.i) × Onward (seen l.source) l.i (listed l.list)
