@@ -1,36 +1,32 @@
 -- A record's columns, measured and written one by one.
-use Rattle.std.proofs.Common.{◌≡◌, ℕ, zero, suc, ◌+◌, ◌-◌, ◌<◌, ◌≤◌, true, false, List, [], ◌∷◌, ◌++◌, length, get_or, take, drop, Some, None, sym, refl, ap, ◌∙◌, append_assoc, append-nil, add-one, arith, length-append, length-drop, drop-cons}
+use Rattle.std.proofs.Common.{◌≡◌, ℕ, suc, ◌+◌, ◌-◌, ◌<◌, ◌≤◌, cond, List, [], ◌∷◌, ◌++◌, length, get_or, take, drop, Some, None, Option, IsSome, sym, refl, ap, ◌∙◌, append_assoc, append-nil, add-one, arith, length-append, length-drop, drop-cons}
 use borrow.Rule.Slice.PartMut.{put_mid}
-use Rattle.std.proofs.lemmas.List.{take_more, take_at, take_all, drop_at, drop-drop, drop_all}
+use Rattle.std.proofs.lemmas.List.{take_more, take_at, take_all, drop_at, take-append-drop, length-take-le, drop-drop, drop_all, get_or-map, length-map}
+use Rattle.std.proofs.lemmas.List.Sums.{sum_by-cons}
 use Rattle.keys.specs.declared.direction.Direction.{Direction}
 use Rattle.keys.specs.declared.direction.Direction.TheVariants.{Ascending, Descending}
+use Rattle.codes.specs.declared.value.Value.{Value}
+use Rattle.codes.specs.Means.{datum_of}
 use Rattle.codes.specs.Values.{Datum, null, clean}
 use Rattle.codes.specs.Codes.{datum_code}
+use Rattle.codes.specs.Laws.{Put}
+use Rattle.keys.specs.declared.row.Record.{Record}
+use Rattle.keys.specs.Means.{data_of}
 use Rattle.keys.specs.Records.{code_in, key}
 use Rattle.keys.specs.Writing.{codes_length, zero_column}
 use Rattle.codes.proofs.Puts.{length_flipped}
 
+-- a value of a record, and what it stands for
+pub column_at : (r : Record) (i : ℕ) (v : Value) → v ≡ get_or r.values.now i v → i < length r.values.now → (i < length (data_of r)) × (get_or (data_of r) i null ≡ datum_of v r.texts.now)
+column_at r i v e h =
+    let f = λ (v : Value). datum_of v r.texts.now in (simp length-map h, get_or-map f r.values.now i v null h ∙ ap f (sym e))
+
 -- the first column that is not clean, from column i on
-pub zero_here : (r : List Datum) (i : ℕ) (d : Datum) → i < length r → get_or r i null ≡ d → clean d ≡ false → zero_column (i + 1) (drop i r) ≡ Some (i + 1)
-zero_here r i d h is e = ap (zero_column (i + 1)) (drop-cons r i null h) ∙ rw (is, e) refl
-
-pub zero_later : (r : List Datum) (i : ℕ) (d : Datum) → i < length r → get_or r i null ≡ d → clean d ≡ true →
-    zero_column (i + 1 + 1) (drop (i + 1) r) ≡ zero_column (i + 1) (drop i r)
-zero_later r i d h is e =
-    let q : drop (i + 1) r ≡ drop (suc i) r = rw add-one refl in
-    rw q (sym (ap (zero_column (i + 1)) (drop-cons r i null h) ∙ rw (is, e) refl))
-
-pub zero_none : (r : List Datum) (i : ℕ) → length r ≤ i → zero_column (i + 1) (drop i r) ≡ None
-zero_none r i h = rw (drop_all i r h) refl
-
-codes_append : (r s : List Datum) → codes_length (r ++ s) ≡ codes_length r + codes_length s
-codes_append [] s = omega arith
-codes_append (d ∷ r) s = omega (arith, codes_append r s)
-
-pub codes_more : (r : List Datum) (i : ℕ) (d : Datum) → i < length r → get_or r i null ≡ d →
-    codes_length (take (i + 1) r) ≡ codes_length (take i r) + length (datum_code d)
-codes_more r i d h is =
-    ap codes_length (take_more r i null h) ∙ rw is (omega (arith, codes_append (take i r) (d ∷ [])))
+pub zero_at : (r : List Datum) (i : ℕ) (d : Datum) → i < length r → get_or r i null ≡ d →
+    zero_column (i + 1) (drop i r) ≡ cond (clean d) (zero_column (i + 1 + 1) (drop (i + 1) r)) (Some (i + 1))
+zero_at r i d h is =
+    let next : drop (i + 1) r ≡ drop (suc i) r = rw add-one refl in
+    rw next (ap (zero_column (i + 1)) (drop-cons r i null h) ∙ rw is refl)
 
 length_code : (c : Direction) (d : Datum) → length (code_in c d) ≡ length (datum_code d)
 length_code Ascending d = refl
@@ -41,30 +37,46 @@ length_key [] [] h = refl
 length_key [] (d ∷ r) h = absurd (omega arith)
 length_key (c ∷ cs) [] h = absurd (omega arith)
 length_key (c ∷ cs) (d ∷ r) h =
-    omega (arith, length-append (code_in c d) (key cs r), length_code c d, length_key cs r (omega arith))
+    omega (arith, length-append (code_in c d) (key cs r), length_code c d, length_key cs r (omega arith), sum_by-cons (λ d. length (datum_code d)) d r)
 
--- one column more of a key
-pub key_more : (cs : List Direction) (r : List Datum) (i : ℕ) → i < length cs → length r ≡ length cs →
-    key (take (i + 1) cs) (take (i + 1) r) ≡ key (take i cs) (take i r) ++ code_in (get_or cs i Ascending) (get_or r i null)
-key_more [] r i h k = absurd (omega arith)
-key_more (c ∷ cs) [] i h k = absurd (omega arith)
-key_more (c ∷ cs) (d ∷ r) zero h k = append-nil (code_in c d)
-key_more (c ∷ cs) (d ∷ r) (suc i) h k =
-    let q : suc i + 1 ≡ suc (i + 1) = omega arith in
-    rw q (ap (λ z. code_in c d ++ z) (key_more cs r i (omega arith) (omega arith))
-    ∙ sym (append_assoc (code_in c d) (key (take i cs) (take i r)) (code_in (get_or cs i Ascending) (get_or r i null))))
+-- some columns and then others
+pub key_append : (fs cs : List Direction) (r s : List Datum) → length r ≡ length fs → key (fs ++ cs) (r ++ s) ≡ key fs r ++ key cs s
+key_append [] cs [] s h = refl
+key_append [] cs (d ∷ r) s h = absurd (omega arith)
+key_append (a ∷ fs) cs [] s h = absurd (omega arith)
+key_append (a ∷ fs) cs (d ∷ r) s h =
+    ap (λ z. code_in a d ++ z) (key_append fs cs r s (omega arith)) ∙ sym (append_assoc (code_in a d) (key fs r) (key cs s))
 
 -- the columns before i, and those from i on
-pub key_split : (cs : List Direction) (r : List Datum) (i : ℕ) → length r ≡ length cs →
+key_split : (cs : List Direction) (r : List Datum) (i : ℕ) → i ≤ length cs → length r ≡ length cs →
     key cs r ≡ key (take i cs) (take i r) ++ key (drop i cs) (drop i r)
-key_split [] [] zero k = refl
-key_split [] [] (suc i) k = refl
-key_split [] (d ∷ r) i k = absurd (omega arith)
-key_split (c ∷ cs) [] i k = absurd (omega arith)
-key_split (c ∷ cs) (d ∷ r) zero k = refl
-key_split (c ∷ cs) (d ∷ r) (suc i) k =
-    ap (λ z. code_in c d ++ z) (key_split cs r i (omega arith))
-    ∙ sym (append_assoc (code_in c d) (key (take i cs) (take i r)) (key (drop i cs) (drop i r)))
+key_split cs r i h k =
+    let long : length (take i r) ≡ length (take i cs) = omega (arith, length-take-le i cs h, length-take-le i r (omega arith)) in
+    let e = key_append (take i cs) (drop i cs) (take i r) (drop i r) long in
+    rw (take-append-drop i cs, take-append-drop i r) at e
+
+-- the column that is written next, and the room that it has
+module _ (cs : List Direction) (r : List Datum) (i : ℕ) (c : Direction) (d : Datum) (h : i < length cs) (k : length r ≡ length cs) (e : c ≡ get_or cs i Ascending) (f : get_or r i null ≡ d) where
+  pub key_next : key (take (i + 1) cs) (take (i + 1) r) ≡ key (take i cs) (take i r) ++ code_in c d
+  key_next =
+      let long : length (take i r) ≡ length (take i cs) = omega (arith, length-take-le i cs (omega arith), length-take-le i r (omega arith)) in
+      rw (take_more cs i Ascending h, take_more r i null (omega arith), sym e, f)
+      (key_append (take i cs) (c ∷ []) (take i r) (d ∷ []) long ∙ ap (λ z. key (take i cs) (take i r) ++ z) (append-nil (code_in c d)))
+
+  pub room : length (key (take i cs) (take i r)) + length (code_in c d) ≤ length (key cs r)
+  room =
+      omega (
+        arith,
+        ap length key_next,
+        length-append (key (take i cs) (take i r)) (code_in c d),
+        ap length (key_split cs r (i + 1) (omega arith) k),
+        length-append (key (take (i + 1) cs) (take (i + 1) r)) (key (drop (i + 1) cs) (drop (i + 1) r)),
+      )
+
+-- a code that has room is written
+pub put_fits : (code before after : List ℕ) (o : Option ℕ) → Put code before after o → length code ≤ length before → IsSome o
+put_fits code before after None p h = absurd (omega (arith, p.0))
+put_fits code before after (Some n) p h = refl
 
 -- a write behind what stands at the front already
 pub put_next : (front code out0 out last : List ℕ) (at n : ℕ) → at ≡ length front → out ≡ front ++ drop at out0 → length out ≡ length out0 →

@@ -81,6 +81,7 @@ key_parts (c ∷ cs) (a ∷ r) (b ∷ s) u v (inr h) =
     (parts_after (code_in c a) (key cs r) (key cs s) (key_parts cs r s u.1 v.1 h.1))
 
 pub key_order : (cs : List Direction) → KeyOrder cs
+unfolding KeyOrder
 key_order cs r s h k = (rises r s h k, falls, λ e. ap (key cs) (equals_same r s h.1 k.1 e), same)
   where
     rises : (r s : List Datum) → IsRecord cs r → IsRecord cs s → Precedes cs r s → Less (key cs r) (key cs s)

@@ -1,5 +1,6 @@
 -- What the values of the code stand for.
-use Rattle.std.specs.Prelude.{List, map, take}
+use Rattle.std.specs.Prelude.{List, map}
+use Rattle.inline.specs.Listed.{listed}
 use Rattle.codes.specs.Means.{datum_of}
 use Rattle.codes.specs.Values.{Datum}
 use Rattle.keys.specs.declared.direction.Direction.{Direction}
@@ -12,4 +13,4 @@ data_of r = map (λ v. datum_of v r.texts.now) r.values.now
 
 -- a plan: the directions of its columns
 abbrev pub directions_of : Plan → List Direction
-directions_of p = take p.count p.columns
+directions_of p = listed p.columns

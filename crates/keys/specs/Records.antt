@@ -46,7 +46,7 @@ Equals (a ∷ r) [] = ⊥
 Equals (a ∷ r) (b ∷ s) = Even a b × Equals r s
 
 -- Key order is record order: of two records the earlier has the smaller key and the other way round, and equal worth is equal bytes.
-abbrev pub KeyOrder : List Direction → Type 0
+unfoldable pub KeyOrder : List Direction → Type 0
 KeyOrder cs = (r s : List Datum) → IsRecord cs r → IsRecord cs s →
     (Precedes cs r s → Less (key cs r) (key cs s)) × (Less (key cs r) (key cs s) → Precedes cs r s)
     × (Equals r s → key cs r ≡ key cs s) × (key cs r ≡ key cs s → Equals r s)

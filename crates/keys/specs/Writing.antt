@@ -1,5 +1,5 @@
 -- What the writing of a key answers and leaves.
-use Rattle.std.specs.Prelude.{◌≡◌, ℕ, ◌+◌, cond, List, [], ◌∷◌, ◌++◌, length, drop, Some, None, Option, ◌==◌, nat_le}
+use Rattle.std.specs.Prelude.{◌≡◌, ℕ, ◌+◌, cond, List, [], ◌∷◌, ◌++◌, length, drop, Some, None, Option, ◌==◌, nat_le, sum_by}
 use Rattle.refusals.specs.Answer.{Answer, gives, refuses}
 use Rattle.keys.specs.declared.direction.Direction.{Direction}
 use Rattle.codes.specs.Values.{Datum, clean}
@@ -19,8 +19,7 @@ unless_zero (Some c) n = refuses 4 (c ∷ [])
 
 -- the length of all columns' codes together, which no direction changes
 abbrev pub codes_length : List Datum → ℕ
-codes_length [] = 0
-codes_length (d ∷ r) = length (datum_code d) + codes_length r
+codes_length r = sum_by (λ d. length (datum_code d)) r
 
 -- the length of a record's codes: 5, then 4 in each column from the left
 unfoldable pub columns_answer : List Direction → List Datum → Answer ℕ

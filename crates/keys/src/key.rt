@@ -34,6 +34,7 @@ pub fn write_key(plan: &Plan, row: Record, out: &mut [u8]) -> Result<usize, KeyF
 }
 
 // The length of a record's key. Refused by 5, by 4 in each column from the left, and by 6.
+#[tactic(auto, using(crate::proofs::Rows::key_order))]
 pub fn key_len(plan: &Plan, row: Record) -> Result<usize, KeyFault>
     ensures answer { answer key_told result ≡ key_answer (directions_of plan.now) (data_of row.entry) }
     ensures valid { IfOk result (λ n. HasKey (directions_of plan.now) (data_of row.entry) n) }
@@ -48,11 +49,9 @@ pub fn key_len(plan: &Plan, row: Record) -> Result<usize, KeyFault>
 }
 
 // The length of a record's codes, as far as a usize can tell it. Refused by 5 and by 4.
+#[tactic(auto, using(crate::proofs::Measures::other_length, crate::proofs::Measures::same_length))]
 fn codes_len(directions: &[Direction], row: Record) -> Result<usize, KeyFault>
-    requires { length directions.now ≤ 8 }
-    ensures answer { MatchResult result (λ n. CodesLen directions.now (data_of row.entry) n) (λ f. columns_answer directions.now (data_of row.entry) ≡ refuses (key_told f).0 (key_told f).1) }
-    ensures order { KeyOrder directions.now }
-    ensures worked { WorkedKeys }
+    ensures { MatchResult result (λ n. CodesLen directions.now (data_of row.entry) n) (λ f. columns_answer directions.now (data_of row.entry) ≡ refuses (key_told f).0 (key_told f).1) }
 {
     if row.values.len() != directions.len() {
         return Err(KeyFault::Columns);
@@ -62,29 +61,15 @@ fn codes_len(directions: &[Direction], row: Record) -> Result<usize, KeyFault>
 
 // The length of all values' codes, as far as a usize can tell it. Refused by 4 in each column from the left.
 fn values_len(row: Record) -> Result<usize, KeyFault>
-    requires { length row.values.now ≤ 8 }
     ensures answer { answer key_told result ≡ unless_zero (zero_column 1 (data_of row.entry)) (counted (codes_length (data_of row.entry))) }
     ensures valid { OnOk result (AllByRecursion Valid (data_of row.entry)) }
 {
     let mut size: usize = 0;
-    for i in 0..row.values.len() {
-        let value = row.values[i];
-        let Some(n) = value.size(row.texts) else {
-            return Err(KeyFault::ZeroByte(i + 1));
-        };
-        size = size.saturating_add(n);
+    for (i, value) in row.values.iter().enumerate() {
+        let len = value.size(row.texts).ok_or(KeyFault::ZeroByte(i + 1))?;
+        size = size.saturating_add(len);
     }
     Ok(size)
-}
-
-// Writes one column's code to the front of the output.
-fn put_column(direction: Direction, value: Value, texts: &[u8], out: &mut [u8]) -> Option<usize>
-    ensures { Put (code_in direction (datum_of value texts.now)) out.old out.new result }
-{
-    match direction {
-        Direction::Ascending => value.put(texts, out),
-        Direction::Descending => Descending(value).put(texts, out),
-    }
 }
 
 // Writes all columns' codes to the front of the output, which has room for them.
@@ -94,10 +79,7 @@ fn put_columns(directions: &[Direction], row: Record, out: &mut [u8])
     ensures { out.new ≡ key directions.now (data_of row.entry) ++ drop (length (key directions.now (data_of row.entry))) out.old }
 {
     let mut at = 0;
-    for i in 0..directions.len() {
-        let Some(n) = put_column(directions[i], row.values[i], row.texts, &mut out[at..]) else {
-            unreachable()
-        };
-        at += n;
+    for (direction, value) in directions.iter().zip(row.values) {
+        at += direction.put(*value, row.texts, &mut out[at..]).unwrap();
     }
 }

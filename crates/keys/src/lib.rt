@@ -4,6 +4,7 @@
 mod comparing;
 mod direction;
 mod key;
+mod key_reader;
 mod plan;
 mod reading;
 mod row;
