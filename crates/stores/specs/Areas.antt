@@ -1,5 +1,5 @@
 -- An area of bytes, cut into pages.
-use Rattle.std.specs.Prelude.{ℕ, ◌+◌, ◌*◌, ◌/◌, min, Bool, cond, ◌&&◌, List, [], ◌∷◌, ◌++◌, map, length, take, drop, nat_le}
+use Rattle.std.specs.Prelude.{ℕ, ◌*◌, ◌/◌, min, Bool, cond, ◌&&◌, List, [], ◌∷◌, ◌++◌, map, take, drop, nat_le}
 use Rattle.std.specs.List.{range_with_len}
 use Rattle.refusals.specs.Answer.{Answer, gives, refuses}
 use Rattle.stores.specs.Pages.{Page, sound, damaged}
@@ -27,10 +27,6 @@ kept_len len = cond (allowed len) len 0
 -- its page count, of an area of so many bytes: the whole pages, at most 65,535
 abbrev pub kept_count : ℕ → ℕ → ℕ
 kept_count len bytes = cond (allowed len) (min 65535 (bytes / len)) 0
-
--- the area with these bytes written from `at` on
-abbrev pub laid : List ℕ → ℕ → List ℕ → List ℕ
-laid area at bytes = take at area ++ (bytes ++ drop (at + length bytes) area)
 
 -- a page's bytes; a damaged page shows none
 abbrev pub shown : Page → List ℕ

@@ -1,7 +1,6 @@
 -- Proofs on a layer's pages, each by a function of its number and the page below.
-use Rattle.std.specs.Prelude.{◌≡◌, ℕ, ◌<◌, List, length, get_or, slice_index_or, slice_set}
-use Rattle.std.proofs.Common.{sym, ap, ◌∙◌, inl, inr, arith}
-use Rattle.std.proofs.lemmas.Bool.{cases_eq}
+use Rattle.std.specs.Prelude.{◌≡◌, ℕ, ◌<◌, List, length, slice_index_or, slice_set}
+use Rattle.std.proofs.Common.{arith}
 use Rattle.std.proofs.lemmas.List.FromFn.{length-map-range_with_len, get_or-map-range_with_len}
 use Rattle.std.proofs.lemmas.List.{length-set, get_or-set_same, get_or-set_other, same_lists}
 use Rattle.stores.specs.Pages.{Page, damaged}
@@ -17,15 +16,7 @@ get_or_each f pages p d h = get_or-map-range_with_len (λ k. f k (slice_index_or
 
 pub each_set : (f : ℕ → Page → Page) (pages : List Page) (p : ℕ) (x : Page) → p < length pages → each f (slice_set pages p x) ≡ slice_set (each f pages) p (f p x)
 each_set f pages p x h =
-    same_lists _ _ (length_each f (slice_set pages p x) ∙ length-set pages p x ∙ sym (length-set (each f pages) p (f p x) ∙ length_each f pages)) at_each
+    same_lists _ _ (grind (arith, length_each, length-set)) at_each
   where
     at_each : (k : ℕ) (d : Page) → k < length (each f (slice_set pages p x)) → slice_index_or (each f (slice_set pages p x)) k d ≡ slice_index_or (slice_set (each f pages) p (f p x)) k d
-    at_each k d l =
-        let lk : k < length (slice_set pages p x) = omega (arith, length_each f (slice_set pages p x)) in
-        let lp : k < length pages = omega (arith, length-set pages p x) in
-        let here = get_or_each f (slice_set pages p x) k d lk in
-        elim (cases_eq k p) [
-          | inl same ↦ let got : get_or (slice_set pages p x) k damaged ≡ x = rw same (get_or-set_same pages p x damaged h) in
-              here ∙ ap (f k) got ∙ rw same (sym (get_or-set_same (each f pages) p (f p x) d (rw length_each h)))
-          | inr other ↦ here ∙ ap (f k) (get_or-set_other pages p k x damaged other) ∙ sym (get_or-set_other (each f pages) p k (f p x) d other ∙ get_or_each f pages k d lp)
-        ]
+    at_each k d l = grind (arith, length_each, get_or_each, length-set, get_or-set_same, get_or-set_other)

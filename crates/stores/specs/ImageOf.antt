@@ -6,11 +6,11 @@ use Rattle.stores.specs.Areas.{cut}
 
 -- its page length
 abbrev pub image_len : Image → ℕ
-image_len i = i.len
+image_len i = i.shape.len
 
 -- its page count
 abbrev pub image_count : Image → ℕ
-image_count i = i.count
+image_count i = i.shape.count
 
 -- all its bytes
 abbrev pub image_area : Image → List ℕ

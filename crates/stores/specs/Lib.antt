@@ -1,6 +1,7 @@
 pub mod Pages
 pub mod Faults
 pub mod Calls
+pub mod Checks
 pub mod Areas
 pub mod ImageOf
 pub mod Sums

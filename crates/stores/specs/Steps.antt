@@ -1,12 +1,11 @@
 -- Proofs for those who call a page store: what each answer of `read` and `write` tells, and which answer must come.
-use Rattle.std.specs.Prelude.{◌≡◌, ℕ, ◌<◌, ◌≤◌, ◌⊎◌, List, [], ◌∷◌, ◌++◌, length, get_or, take, drop, Ok, Err, Result, ◌≢◌, slice_index_or, slice_set, refl}
+use Rattle.std.specs.Prelude.{◌≡◌, ℕ, ◌<◌, ◌≤◌, ◌⊎◌, List, ◌++◌, length, get_or, take, drop, Ok, Err, Result, ◌≢◌, slice_index_or, slice_set, refl}
 use Rattle.std.proofs.Common.{inl, inr, arith}
-use Rattle.std.proofs.lemmas.Bool.Decides.{nat_tests}
 use Rattle.std.proofs.lemmas.Bool.{cases_lt, cases_eq}
 use Rattle.std.proofs.lemmas.List.{take_at, length-set, get_or-set_same, get_or-set_other}
-use Rattle.refusals.specs.Answer.{gives, refuses, answer}
+use Rattle.refusals.specs.Answer.{answer}
 use Rattle.stores.specs.declared.fault.StoreFault.{StoreFault}
-use Rattle.stores.specs.declared.fault.StoreFault.TheVariants.{NoSuchPage, WrongLength, Damaged, PageLength}
+use Rattle.stores.specs.declared.fault.StoreFault.TheVariants.{NoSuchPage, WrongLength, Damaged}
 use Rattle.stores.specs.Pages.{Page, sound, damaged}
 use Rattle.stores.specs.Faults.{store_told}
 use Rattle.stores.specs.Calls.{read_answer, read_buffer, write_answer, write_pages}
@@ -14,30 +13,6 @@ use Rattle.stores.specs.Calls.{read_answer, read_buffer, write_answer, write_pag
 pub page_cases : (x : Page) → ((b : List ℕ) × (x ≡ sound b)) ⊎ (x ≡ damaged)
 page_cases (sound b) = inl (b, refl)
 page_cases damaged = inr refl
-
--- a number with its values belongs to one fault
-told_page : (e : StoreFault) (p : ℕ) → answer {A = Unit {0}} store_told (Err e) ≡ refuses 9 (p ∷ []) → e ≡ NoSuchPage p
-told_page (NoSuchPage q) p h = cc
-told_page WrongLength p h = absurd (let z : ◌≡◌ {A = ℕ} 8 9 = cc in omega arith)
-told_page (Damaged q) p h = absurd (let z : ◌≡◌ {A = ℕ} 10 9 = cc in omega arith)
-told_page PageLength p h = absurd (let z : ◌≡◌ {A = ℕ} 11 9 = cc in omega arith)
-
-told_length : (e : StoreFault) → answer {A = Unit {0}} store_told (Err e) ≡ refuses 8 [] → e ≡ WrongLength
-told_length (NoSuchPage q) h = absurd (let z : ◌≡◌ {A = ℕ} 9 8 = cc in omega arith)
-told_length WrongLength h = refl
-told_length (Damaged q) h = absurd (let z : ◌≡◌ {A = ℕ} 10 8 = cc in omega arith)
-told_length PageLength h = absurd (let z : ◌≡◌ {A = ℕ} 11 8 = cc in omega arith)
-
-told_damaged : (e : StoreFault) (p : ℕ) → answer {A = Unit {0}} store_told (Err e) ≡ refuses 10 (p ∷ []) → e ≡ Damaged p
-told_damaged (NoSuchPage q) p h = absurd (let z : ◌≡◌ {A = ℕ} 9 10 = cc in omega arith)
-told_damaged WrongLength p h = absurd (let z : ◌≡◌ {A = ℕ} 8 10 = cc in omega arith)
-told_damaged (Damaged q) p h = cc
-told_damaged PageLength p h = absurd (let z : ◌≡◌ {A = ℕ} 11 10 = cc in omega arith)
-
--- an answer that gives is no refusal
-told_none : (r : Result (Unit {0}) StoreFault) → answer store_told r ≡ gives tt → r ≡ Ok tt
-told_none (Ok u) h = refl
-told_none (Err e) h = absurd (let z : ◌≡◌ {A = ℕ} 0 1 = cc in omega arith)
 
 -- what a read that was accepted tells
 pub record Read (len : ℕ) (pages : List Page) (p : ℕ) (buf out : List ℕ) : Type 0 where
@@ -87,11 +62,16 @@ module _ (len : ℕ) (pages : List Page) (p : ℕ) where
   read_ok buf out u sized a o =
       elim (page_cases (slice_index_or pages p damaged)) [
         | inl (b, e) ↦ let l = sized b e in
-            let h : p < length pages = grind (arith, nat_tests) in
-            let m : len ≤ length buf = grind (arith, nat_tests) in
-            let w : out ≡ b ++ drop len buf = grind (arith, nat_tests) in
-            record { bytes = b; within = h; room = m; page = e; sized = l; whole = w; front = grind (arith, take_at) }
-        | inr e ↦ absurd (grind (arith, nat_tests))
+            record {
+              bytes = b;
+              within = grind arith;
+              room = grind arith;
+              page = e;
+              sized = l;
+              whole = grind arith;
+              front = grind (arith, take_at);
+            }
+        | inr e ↦ absurd (grind arith)
       ]
 
   pub read_err : (buf out : List ℕ) (e : StoreFault) → answer {A = Unit {0}} store_told (Err e) ≡ read_answer len pages p (length buf) →
@@ -99,27 +79,25 @@ module _ (len : ℕ) (pages : List Page) (p : ℕ) where
   read_err buf out e a o =
       elim (cases_lt p (length pages)) [
         | inl h ↦ elim (cases_lt (length buf) len) [
-          | inl m ↦ (grind (arith, nat_tests), no_room (told_length e (grind (arith, nat_tests))) h m)
+          | inl m ↦ (grind arith, no_room (grind arith) h m)
           | inr m ↦ elim (page_cases (slice_index_or pages p damaged)) [
-            | inl (b, x) ↦ absurd (grind (arith, nat_tests))
-            | inr x ↦ (grind (arith, nat_tests), torn (told_damaged e p (grind (arith, nat_tests))) h m x)
+            | inl (b, x) ↦ absurd (grind arith)
+            | inr x ↦ (grind arith, torn (grind arith) h m x)
           ]
         ]
-        | inr h ↦ (grind (arith, nat_tests), no_page (told_page e p (grind (arith, nat_tests))) h)
+        | inr h ↦ (grind arith, no_page (grind arith) h)
       ]
 
   -- a read of a sound page into a buffer with room is accepted
   pub read_sure : (buf b out : List ℕ) (r : Result (Unit {0}) StoreFault) → p < length pages → len ≤ length buf →
       slice_index_or pages p damaged ≡ sound b → answer store_told r ≡ read_answer len pages p (length buf) →
       out ≡ read_buffer len pages p buf → (r ≡ Ok tt) × (out ≡ b ++ drop (length b) buf)
-  read_sure buf b out r h m e a o = (told_none r (grind (arith, nat_tests)), grind (arith, nat_tests))
+  read_sure buf b out r h m e a o = (grind arith, grind arith)
 
   pub write_ok : (bytes : List ℕ) (after : List Page) (u : Unit {0}) → answer store_told (Ok u) ≡ write_answer len pages p (length bytes) →
       after ≡ write_pages len pages p bytes → Written len pages p bytes after
   write_ok bytes after u a w =
-      let h : p < length pages = grind (arith, nat_tests) in
-      let l : length bytes ≡ len = grind (arith, nat_tests) in
-      record { within = h; sized = l; put = grind (arith, nat_tests) }
+      record { within = grind arith; sized = grind arith; put = grind arith }
 
   pub write_err : (bytes : List ℕ) (after : List Page) (e : StoreFault) →
       answer {A = Unit {0}} store_told (Err e) ≡ write_answer len pages p (length bytes) →
@@ -127,10 +105,10 @@ module _ (len : ℕ) (pages : List Page) (p : ℕ) where
   write_err bytes after e a w =
       elim (cases_lt p (length pages)) [
         | inl h ↦ elim (cases_eq (length bytes) len) [
-          | inl l ↦ absurd (grind (arith, nat_tests))
-          | inr l ↦ (grind (arith, nat_tests), no_fit (told_length e (grind (arith, nat_tests))) h l)
+          | inl l ↦ absurd (grind arith)
+          | inr l ↦ (grind arith, no_fit (grind arith) h l)
         ]
-        | inr h ↦ (grind (arith, nat_tests), no_page (told_page e p (grind (arith, nat_tests))) h)
+        | inr h ↦ (grind arith, no_page (grind arith) h)
       ]
 
   -- a write of one page's bytes to a page that is there is accepted
@@ -138,4 +116,4 @@ module _ (len : ℕ) (pages : List Page) (p : ℕ) where
       answer store_told r ≡ write_answer len pages p (length bytes) → after ≡ write_pages len pages p bytes →
       (r ≡ Ok tt) × Written len pages p bytes after
   write_sure bytes after r h l a w =
-      (told_none r (grind (arith, nat_tests)), record { within = h; sized = l; put = grind (arith, nat_tests) })
+      (grind arith, record { within = h; sized = l; put = grind arith })

@@ -1,19 +1,14 @@
 -- The two sums that seal a page.
-use Rattle.std.specs.Prelude.{ℕ, ◌+◌, ◌*◌, ◌/◌, ◌%◌, Bool, ◌&&◌, List, [], ◌∷◌, take, ◌==◌, slice_index}
-
--- all bytes together
-unfoldable pub total : List ℕ → ℕ
-total [] = 0
-total (x ∷ xs) = x + total xs
+use Rattle.std.specs.Prelude.{ℕ, ◌+◌, ◌*◌, ◌/◌, ◌%◌, Bool, ◌&&◌, List, [], ◌∷◌, sum, take, ◌==◌, slice_index}
 
 -- each byte times its place, the first at j
 unfoldable pub weighed : ℕ → List ℕ → ℕ
 weighed j [] = 0
 weighed j (x ∷ xs) = j * x + weighed (j + 1) xs
 
--- the first sum, A, of page p
+-- the first sum, A, of page p: its number and all bytes together
 abbrev pub check_a : ℕ → List ℕ → ℕ
-check_a p bytes = (p + total bytes) % 65535
+check_a p bytes = (p + sum bytes) % 65535
 
 -- the second sum, B
 abbrev pub check_b : List ℕ → ℕ

@@ -5,6 +5,5 @@ pub(crate) fn put_front(buf: &mut [u8], bytes: &[u8])
     requires { length bytes.now ≤ length buf.old }
     ensures { buf.new ≡ bytes.now ++ drop (length bytes.now) buf.old }
 {
-    let n = bytes.len();
-    buf[0..n].copy_from_slice(bytes);
+    buf[0..bytes.len()].copy_from_slice(bytes);
 }

@@ -4,6 +4,7 @@ ghost use Rattle.stores.specs.Faults.{store_told};
 ghost use Rattle.stores.specs.Keeping.{keep_answer, Keeps};
 
 use crate::fault::StoreFault;
+use crate::shape::Shape;
 use crate::store::PageStore;
 
 // Writes page p and reads it back: the buffer then holds what was written, and no other page has changed.
@@ -19,13 +20,11 @@ pub fn write_and_read<S: PageStore>(
     ensures count { length (S.pages store.new) ≡ length (S.pages store.old) }
     ensures rest { S.rest store.new ≡ S.rest store.old }
 {
-    if p >= store.page_count() {
-        return Err(StoreFault::NoSuchPage(p));
-    }
-    if buf.len() < store.page_len() {
-        return Err(StoreFault::WrongLength);
-    }
+    let shape = Shape {
+        len: store.page_len(),
+        count: store.page_count(),
+    };
+    shape.readable(p, buf.len())?;
     store.write(p, bytes)?;
-    store.read(p, buf)?;
-    Ok(())
+    store.read(p, buf)
 }

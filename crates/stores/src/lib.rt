@@ -6,7 +6,9 @@ mod front;
 mod image;
 mod image_area;
 mod kept;
+mod page_data;
 mod seal;
+mod shape;
 mod store;
 mod sums;
 

@@ -6,8 +6,10 @@ ghost use Rattle.stores.specs.Opens.{short as short_opened, few as few_opened, s
 
 use crate::fault::StoreFault;
 use crate::front::put_front;
+use crate::page_data::PageData;
+use crate::shape::Shape;
 use crate::store::PageStore;
-use crate::sums::{agrees, seal_into};
+use crate::sums::agrees;
 
 // A store whose pages lie in the store below with two sums behind their bytes.
 #[derive(Drop)]
@@ -17,6 +19,7 @@ pub struct Seal<S> {
 
 impl<S> Seal<S> {
     // Seals a store. Which changes below it a seal detects stands in specs/Detects.antt.
+    #[tactic(auto, using(crate::proofs::Detected::detects))]
     pub fn new(lower: S) -> Seal<S>
         ensures lower { result.lower ≡ lower }
         ensures detects { Detects }
@@ -28,47 +31,51 @@ impl<S> Seal<S> {
     pub fn into_lower(self) -> S
         ensures { result ≡ self.lower }
     {
-        let Seal { lower } = self;
-        lower
+        self.lower
     }
 }
 
-// How many pages of a store can be sealed: all, or none where they are shorter than a seal.
-fn sealed_count<S: PageStore>(lower: &S) -> usize
-    ensures { result ≡ length (open_pages (S.len lower.now) (S.pages lower.now)) }
-{
-    if lower.page_len() < 4 {
-        0
-    } else {
-        lower.page_count()
+impl<S: PageStore> Seal<S> {
+    // The length and the count of the sealed pages.
+    #[tactic(auto, using(crate::specs::Eaches::length_each))]
+    fn shape(&self) -> Shape
+        ensures len { result.len ≡ S.len self.now.lower - 4 }
+        ensures count { result.count ≡ length (open_pages (S.len self.now.lower) (S.pages self.now.lower)) }
+    {
+        Shape {
+            len: self.page_len(),
+            count: self.page_count(),
+        }
     }
-}
 
-// Reads page p of the store below to the front of `page`, and checks its seal.
-fn open_page<S: PageStore>(lower: &S, p: usize, page: &mut [u8]) -> Result<(), StoreFault>
-    requires { (p < length (open_pages (S.len lower.now) (S.pages lower.now))) × (length page.old ≡ 1024) }
-    ensures { Opens p (slice_index_or (open_pages (S.len lower.now) (S.pages lower.now)) p damaged) (S.len lower.now - 4) result page.new }
-{
-    let whole = lower.page_len();
-    lower.read(p, page)?;
-    if !agrees(p, whole - 4, &page[0..whole]) {
-        return Err(StoreFault::Damaged(p));
+    // Reads page p of the store below to the front of `page`, and checks its seal.
+    #[tactic(auto, using(crate::specs::Opens::openings))]
+    fn open_page(&self, p: usize, page: &mut [u8; 1024]) -> Result<(), StoreFault>
+        requires { p < length (open_pages (S.len self.now.lower) (S.pages self.now.lower)) }
+        ensures { Opens p (slice_index_or (open_pages (S.len self.now.lower) (S.pages self.now.lower)) p damaged) (S.len self.now.lower - 4) result page.new }
+    {
+        self.lower.read(p, page)?;
+        if !agrees(p, &page[0..self.lower.page_len()]) {
+            return Err(StoreFault::Damaged(p));
+        }
+        Ok(())
     }
-    Ok(())
-}
 
-// Writes the bytes with their seal to page p of the store below.
-fn put_page<S: PageStore>(lower: &mut S, p: usize, bytes: &[u8]) -> Result<(), StoreFault>
-    requires { (p < length (open_pages (S.len lower.old) (S.pages lower.old))) × (length bytes.now ≡ S.len lower.old - 4) }
-    ensures answer { result ≡ Ok tt }
-    ensures len { S.len lower.new ≡ S.len lower.old }
-    ensures pages { open_pages (S.len lower.new) (S.pages lower.new) ≡ slice_set (open_pages (S.len lower.old) (S.pages lower.old)) p (sound bytes.now) }
-    ensures rest { S.rest lower.new ≡ S.rest lower.old }
-{
-    let mut page = [0u8; 1024];
-    let sealed = &mut page[0..bytes.len() + 4];
-    seal_into(sealed, p, bytes);
-    lower.write(p, sealed)
+    // Writes the bytes with their seal to page p of the store below.
+    #[tactic(auto, using(crate::specs::Opens::sealings))]
+    fn put_page(&mut self, p: usize, bytes: &[u8]) -> Result<(), StoreFault>
+        requires there { p < length (open_pages (S.len self.old.lower) (S.pages self.old.lower)) }
+        requires whole { length bytes.now ≡ S.len self.old.lower - 4 }
+        ensures answer { result ≡ Ok tt }
+        ensures len { S.len self.new.lower ≡ S.len self.old.lower }
+        ensures pages { open_pages (S.len self.new.lower) (S.pages self.new.lower) ≡ slice_set (open_pages (S.len self.old.lower) (S.pages self.old.lower)) p (sound bytes.now) }
+        ensures rest { S.rest self.new.lower ≡ S.rest self.old.lower }
+    {
+        let mut page = [0u8; 1024];
+        let sealed = &mut page[0..bytes.len() + 4];
+        PageData { number: p, bytes }.seal_into(sealed);
+        self.lower.write(p, sealed)
+    }
 }
 
 impl<S: PageStore> PageStore for Seal<S> {
@@ -88,32 +95,26 @@ impl<S: PageStore> PageStore for Seal<S> {
         self.lower.page_len().saturating_sub(4)
     }
 
+    // As many as below; none where those are shorter than a seal.
+    #[tactic(auto, using(crate::specs::Eaches::length_each))]
     fn page_count(&self) -> usize {
-        sealed_count(&self.lower)
+        if self.lower.page_len() < 4 {
+            return 0;
+        }
+        self.lower.page_count()
     }
 
     fn read(&self, p: usize, buf: &mut [u8]) -> Result<(), StoreFault> {
-        if p >= self.page_count() {
-            return Err(StoreFault::NoSuchPage(p));
-        }
-        let n = self.page_len();
-        if buf.len() < n {
-            return Err(StoreFault::WrongLength);
-        }
+        let shape = self.shape();
+        shape.readable(p, buf.len())?;
         let mut page = [0u8; 1024];
-        open_page(&self.lower, p, &mut page)?;
-        put_front(buf, &page[0..n]);
+        self.open_page(p, &mut page)?;
+        put_front(buf, &page[0..shape.len]);
         Ok(())
     }
 
     fn write(&mut self, p: usize, bytes: &[u8]) -> Result<(), StoreFault> {
-        if p >= self.page_count() {
-            return Err(StoreFault::NoSuchPage(p));
-        }
-        if bytes.len() != self.page_len() {
-            return Err(StoreFault::WrongLength);
-        }
-        put_page(&mut self.lower, p, bytes)?;
-        Ok(())
+        self.shape().writable(p, bytes.len())?;
+        self.put_page(p, bytes)
     }
 }

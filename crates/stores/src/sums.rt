@@ -1,80 +1,89 @@
-ghost use Rattle.std.specs.Prelude.{◌≡◌, ◌+◌, ◌/◌, ◌%◌, ◌<◌, ◌≤◌, [], ◌∷◌, ◌++◌, length, slice_index};
-ghost use Rattle.stores.specs.Sums.{total, weighed, check_a, check_b, pair_of, seal_of, agrees_at};
+ghost use Rattle.std.specs.Prelude.{◌≡◌, ◌+◌, ◌-◌, ◌<◌, ◌≤◌, ◌++◌, length, sum, slice_index};
+ghost use Rattle.stores.specs.Sums.{weighed, check_a, check_b, pair_of, quad, seal_of, agrees_at};
+
+use crate::page_data::PageData;
 
 // The two sums that seal a page.
-#[derive(Clone, Copy)]
+#[derive(Clone, Copy, PartialEq, Eq)]
 struct Sums {
-    plain: u64,
-    places: u64,
+    plain: u16,
+    places: u16,
 }
 
-// The page number and all bytes together, and the bytes each times its place, from 1 on.
-fn running(p: usize, bytes: &[u8]) -> Sums
-    requires { (p < 65535) × (length bytes.now ≤ 1024) }
-    ensures plain { result.plain ≡ p + total bytes.now }
-    ensures places { result.places ≡ weighed 1 bytes.now }
-{
-    let mut plain = p as u64;
-    let mut places: u64 = 0;
-    let mut place: u64 = 1;
-    for byte in bytes {
-        plain += *byte as u64;
-        places += place * (*byte as u64);
-        place += 1;
+impl Sums {
+    // The four bytes that stand behind the data, high bytes first.
+    fn to_bytes(self) -> [u8; 4]
+        ensures { result ≡ quad self.plain self.places }
+    {
+        let plain = self.plain.to_be_bytes();
+        let places = self.places.to_be_bytes();
+        [plain[0], plain[1], places[0], places[1]]
     }
-    Sums { plain, places }
-}
 
-// Both sums as a page keeps them: no byte costs a division.
-fn sums_of(p: usize, bytes: &[u8]) -> Sums
-    requires { (p < 65535) × (length bytes.now ≤ 1024) }
-    ensures plain { result.plain ≡ check_a p bytes.now }
-    ensures places { result.places ≡ check_b bytes.now }
-{
-    let sums = running(p, bytes);
-    Sums {
-        plain: sums.plain % 65535,
-        places: sums.places % 65535,
+    // The sums that the four bytes hold.
+    fn from_bytes(seal: &[u8]) -> Sums
+        requires { length seal.now ≡ 4 }
+        ensures plain { result.plain ≡ pair_of (slice_index seal.now 0) (slice_index seal.now 1) }
+        ensures places { result.places ≡ pair_of (slice_index seal.now 2) (slice_index seal.now 3) }
+    {
+        Sums {
+            plain: u16::from_be_bytes([seal[0], seal[1]]),
+            places: u16::from_be_bytes([seal[2], seal[3]]),
+        }
     }
 }
 
-// A sum as two bytes, high byte first.
-fn high_first(sum: u64) -> [u8; 2]
-    requires { sum < 65536 }
-    ensures { result ≡ sum / 256 ∷ sum % 256 ∷ [] }
-{
-    [(sum / 256) as u8, (sum % 256) as u8]
+impl PageData<'_> {
+    // The page number and all bytes together, and the bytes each times its place, from 1 on.
+    // The form of this loop is fixed: a counter beside the bytes, sums of 64 bits, and no division.
+    #[tactic(auto, using(crate::proofs::Totals::running_totals))]
+    fn running(self) -> (u64, u64)
+        ensures plain { result.0 ≡ self.entry.number + sum self.entry.bytes.now }
+        ensures places { result.1 ≡ weighed 1 self.entry.bytes.now }
+    {
+        // `usize` has no `From` into `u64`.
+        let mut plain = self.number as u64;
+        let mut places: u64 = 0;
+        let mut place: u64 = 1;
+        for byte in self.bytes {
+            let byte = u64::from(*byte);
+            plain += byte;
+            places += place * byte;
+            place += 1;
+        }
+        (plain, places)
+    }
+
+    // Both sums as a page keeps them; `as` loses nothing of a remainder by 65,535, and no `From` leads there.
+    fn sums(self) -> Sums
+        ensures plain { result.plain ≡ check_a self.entry.number self.entry.bytes.now }
+        ensures places { result.places ≡ check_b self.entry.bytes.now }
+    {
+        let (plain, places) = self.running();
+        Sums {
+            plain: (plain % 65535) as u16,
+            places: (places % 65535) as u16,
+        }
+    }
+
+    // Fills a page with the data bytes and the seal behind them.
+    pub(crate) fn seal_into(self, page: &mut [u8])
+        requires { length page.old ≡ length self.bytes.now + 4 }
+        ensures { page.new ≡ self.entry.bytes.now ++ seal_of self.entry.number self.entry.bytes.now }
+    {
+        let (front, back) = page.split_at_mut(self.bytes.len());
+        front.copy_from_slice(self.bytes);
+        back.copy_from_slice(&self.sums().to_bytes());
+    }
 }
 
-// The sum that two bytes of a page hold.
-fn stored(page: &[u8], at: usize) -> u64
-    requires { at + 2 ≤ length page.now }
-    ensures { result ≡ pair_of (slice_index page.now at) (slice_index page.now (at + 1)) }
+// Whether the four bytes at the end of page p are the seal of those before.
+pub(crate) fn agrees(p: usize, page: &[u8]) -> bool
+    requires low { p < 65535 }
+    requires long { 4 ≤ length page.now }
+    requires short { length page.now ≤ 1024 }
+    ensures { result ≡ agrees_at (length page.now - 4) p page.now }
 {
-    page[at] as u64 * 256 + page[at + 1] as u64
-}
-
-// Fills a page with data bytes and the seal behind them.
-pub(crate) fn seal_into(page: &mut [u8], p: usize, bytes: &[u8])
-    requires { (p < 65535) × ((length bytes.now ≤ 1020) × (length page.old ≡ length bytes.now + 4)) }
-    ensures { page.new ≡ bytes.now ++ seal_of p bytes.now }
-{
-    let n = bytes.len();
-    let sums = sums_of(p, bytes);
-    let plain = high_first(sums.plain);
-    let places = high_first(sums.places);
-    let seal = [plain[0], plain[1], places[0], places[1]];
-    page[0..n].copy_from_slice(bytes);
-    page[n..n + 4].copy_from_slice(&seal);
-}
-
-// Whether the seal behind the n data bytes of page p is theirs.
-pub(crate) fn agrees(p: usize, n: usize, page: &[u8]) -> bool
-    requires { (p < 65535) × ((length page.now ≤ 1024) × (n + 4 ≤ length page.now)) }
-    ensures { result ≡ agrees_at n p page.now }
-{
-    let sums = sums_of(p, &page[0..n]);
-    let plain = stored(page, n);
-    let places = stored(page, n + 2);
-    plain == sums.plain && places == sums.places
+    let (bytes, seal) = page.split_at(page.len() - 4);
+    Sums::from_bytes(seal) == PageData { number: p, bytes }.sums()
 }

@@ -80,6 +80,36 @@ mod tests {
         Ok(())
     }
 
+    // A short buffer, and bytes that are not one page: refused once the page is there, and nothing changes.
+    #[test]
+    fn wrong_lengths_for_an_image(rt: HostRuntime) -> Result<(), Fail> {
+        let mut image = Image::new(vec![in rt.alloc(); 7u8; 24]?, 12);
+        let mut buf = [9u8; 11];
+        assert_eq!(rt; image.read(2, &mut buf), Err(StoreFault::NoSuchPage(2)));
+        assert_eq!(rt; image.read(1, &mut buf), Err(StoreFault::WrongLength));
+        assert_eq!(rt; buf, [9u8; 11]);
+        assert_eq!(rt; image.write(2, &[1u8; 11]), Err(StoreFault::NoSuchPage(2)));
+        assert_eq!(rt; image.write(1, &[1u8; 11]), Err(StoreFault::WrongLength));
+        assert_eq!(rt; image.write(1, &[1u8; 13]), Err(StoreFault::WrongLength));
+        assert!(rt; image.into_area().iter().all(|byte| *byte == 7));
+        Ok(())
+    }
+
+    // The same under a seal; a short buffer is told before the damage.
+    #[test]
+    fn wrong_lengths_for_a_sealed_image(rt: HostRuntime) -> Result<(), Fail> {
+        let mut seal = Seal::new(Image::new(vec![in rt.alloc(); 7u8; 24]?, 12));
+        let mut buf = [9u8; 7];
+        assert_eq!(rt; seal.read(2, &mut buf), Err(StoreFault::NoSuchPage(2)));
+        assert_eq!(rt; seal.read(1, &mut buf), Err(StoreFault::WrongLength));
+        assert_eq!(rt; buf, [9u8; 7]);
+        assert_eq!(rt; seal.write(2, &[1u8; 7]), Err(StoreFault::NoSuchPage(2)));
+        assert_eq!(rt; seal.write(1, &[1u8; 7]), Err(StoreFault::WrongLength));
+        assert_eq!(rt; seal.write(1, &[1u8; 12]), Err(StoreFault::WrongLength));
+        assert!(rt; seal.into_lower().into_area().iter().all(|byte| *byte == 7));
+        Ok(())
+    }
+
     // The length and the count of pages under two seals, over 90 bytes in pages of this length.
     fn under_two_seals(heap: Global, len: usize) -> Result<(usize, usize), Fail> {
         let seal = Seal::new(Seal::new(Image::new(vec![in heap; 0u8; 90]?, len)));
