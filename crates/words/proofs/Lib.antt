@@ -1,6 +1,6 @@
 pub mod Tenfold
 pub mod Pairs
-pub mod Letters
 pub mod Texts
+pub mod Fronts
 pub mod Splits
 pub mod Worths

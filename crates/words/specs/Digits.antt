@@ -1,6 +1,7 @@
 -- Numbers written in base ten.
-use Rattle.std.specs.Prelude.{ℕ, ◌-◌, Bool, true, cond, ◌&&◌, List, [], ◌∷◌, map, length, Some, None, Option, nat_le}
+use Rattle.std.specs.Prelude.{ℕ, ◌-◌, Bool, cond, ◌&&◌, List, map, length, Some, None, Option, nat_le}
 use Rattle.std.specs.Char.{is_ascii_digit}
+use Rattle.std.specs.List.{list_all}
 use Rattle.std.specs.Int.Digits.{number_from_digits}
 
 -- the number that a digit writes; 0 for any other byte
@@ -9,8 +10,7 @@ digit_of b = cond (is_ascii_digit b) (b - 48) 0
 
 -- whether each byte is a digit
 abbrev pub all_digits : List ℕ → Bool
-all_digits [] = true
-all_digits (b ∷ bs) = is_ascii_digit b && all_digits bs
+all_digits bs = list_all is_ascii_digit bs
 
 -- the number that digits write
 abbrev pub written : List ℕ → ℕ

@@ -1,5 +1,5 @@
 -- Lines and the words that they fall into.
-use Rattle.std.specs.Prelude.{◌≡◌, ℕ, ◌<◌, ◌≤◌, ◌⊎◌, List, [], ◌∷◌, ◌++◌, map, length, take, ◌≢◌, slice_index}
+use Rattle.std.specs.Prelude.{◌≡◌, ℕ, ◌<◌, ◌⊎◌, List, [], ◌∷◌, ◌++◌, map, length, ◌≢◌, Option, MatchOption}
 use Rattle.std.specs.Borrow.{Bor}
 use Rattle.std.specs.List.{AllByRecursion}
 
@@ -32,9 +32,18 @@ lent refs = map (λ r. r.now) refs
 abbrev pub Falls : List ℕ → List (List ℕ) → Type 0
 Falls line ws = (spaced ws ≡ line) × AllByRecursion IsWord ws
 
--- the first n bytes are a word, and a space or nothing stands behind it
-pub record Front (bytes : List ℕ) (n : ℕ) : Type 0 where
-  pub some : 0 < n
-  pub within : n ≤ length bytes
-  pub word : IsWord (take n bytes)
-  pub space : n < length bytes → slice_index bytes n ≡ 32
+-- bytes are this word, alone or with a space and what is lent behind it
+abbrev pub FirstWord : List ℕ → List ℕ → Option (Bor (List ℕ)) → Type 0
+FirstWord bytes w behind = IsWord w × MatchOption behind (bytes ≡ w) (λ next. bytes ≡ w ++ (32 ∷ next.now))
+
+-- nothing, or a first byte b
+abbrev pub Stops : ℕ → List ℕ → Type 0
+Stops b bytes = (bytes ≡ []) ⊎ ((next : List ℕ) × (bytes ≡ b ∷ next))
+
+-- bytes begin with no word that a space or nothing follows
+abbrev pub NoFirstWord : List ℕ → Type 0
+NoFirstWord bytes = (w tail : List ℕ) → IsWord w → Stops 32 tail → bytes ≢ w ++ tail
+
+-- a line falls into no words, be it one or more
+abbrev pub NoWords : List ℕ → Type 0
+NoWords line = (w : List ℕ) (ws : List (List ℕ)) → Falls line (w ∷ ws) → ⊥

@@ -1,5 +1,6 @@
 -- Plans written as letters.
-use Rattle.std.specs.Prelude.{ℕ, Bool, true, cond, ◌&&◌, ◌||◌, List, [], ◌∷◌, map, ◌==◌}
+use Rattle.std.specs.Prelude.{ℕ, Bool, cond, ◌||◌, List, [], map, ◌==◌}
+use Rattle.std.specs.List.{list_all}
 use Rattle.refusals.specs.Answer.{Answer, refuses}
 use Rattle.keys.specs.declared.direction.Direction.{Direction}
 use Rattle.keys.specs.declared.direction.Direction.TheVariants.{Ascending, Descending}
@@ -11,8 +12,7 @@ direction_of b = cond (b == 97) Ascending Descending
 
 -- whether each letter is a or d
 abbrev pub letters : List ℕ → Bool
-letters [] = true
-letters (b ∷ bs) = (b == 97 || b == 100) && letters bs
+letters bs = list_all (λ b. b == 97 || b == 100) bs
 
 -- the plan that a word writes, a column for each letter
 abbrev pub plan_word : List ℕ → Answer (List Direction)

@@ -1,7 +1,8 @@
-ghost use Rattle.std.specs.Prelude.{◌≡◌, ◌+◌, ◌*◌, ◌/◌, ◌%◌, ◌<◌, ◌++◌, IfSome, OnOk};
-ghost use Rattle.words.specs.Hex.{Added, hex, hex_digit};
-ghost use Rattle.words.specs.declared.fault.WordFault.TheVariants.{Form};
+ghost use Rattle.std.specs.Prelude.{◌≡◌, ℕ, ◌+◌, ◌*◌, ◌/◌, ◌%◌, ◌<◌, ◌++◌, ◌≢◌, MatchOption, MatchResult, OnOk};
+ghost use Rattle.words.specs.Hex.{Added, NoHex, NoPair, Pair, hex, hex_digit};
+ghost use Rattle.words.specs.declared.fault.WordFault.TheVariants.{Memory};
 
+use crate::digits::digit;
 use crate::fault::WordFault;
 use std::alloc::AllocError;
 
@@ -17,16 +18,13 @@ pub fn push_hex(out: &mut Vec<u8>, bytes: &[u8]) -> Result<(), AllocError>
 
 // Adds the bytes that a word of upper-case hexadecimal pairs writes.
 pub fn read_hex(word: &[u8], out: &mut Vec<u8>) -> Result<(), WordFault>
-    ensures { OnOk result (Added word.now out.old.items out.new.items) }
+    ensures { MatchResult result (λ _. Added word.now out.old.items out.new.items) (λ e. e ≢ Memory → NoHex word.now) }
 {
-    if word.len() % 2 != 0 {
+    let (pairs, []) = word.as_chunks::<2>() else {
         return Err(WordFault::Form);
-    }
-    for i in 0..word.len() / 2 {
-        let Some(byte) = hex_pair(word[2 * i], word[2 * i + 1]) else {
-            return Err(WordFault::Form);
-        };
-        out.push(byte)?;
+    };
+    for [high, low] in pairs {
+        out.push(hex_pair(*high, *low).ok_or(WordFault::Form)?)?;
     }
     Ok(())
 }
@@ -40,21 +38,18 @@ fn hex_digit(n: u8) -> u8
 }
 
 // The number below 16 that a digit writes.
-fn hex_value(digit: u8) -> Option<u8>
-    ensures { IfSome result (λ n. (n < 16) × (hex_digit n ≡ digit)) }
+fn hex_value(b: u8) -> Option<u8>
+    ensures { MatchOption result ((n : ℕ) → n < 16 → hex_digit n ≢ b) (λ n. (n < 16) × (hex_digit n ≡ b)) }
 {
-    match digit {
-        b'0'..=b'9' => Some(digit - b'0'),
-        b'A'..=b'F' => Some(digit - b'A' + 10),
-        _ => None,
+    match b {
+        b'A'..=b'F' => Some(b - b'A' + 10),
+        _ => digit(b),
     }
 }
 
 // The byte that a pair of digits writes.
 fn hex_pair(high: u8, low: u8) -> Option<u8>
-    ensures { IfSome result (λ b. (b < 256) × (hex_digit (b / 16) ≡ high) × (hex_digit (b % 16) ≡ low)) }
+    ensures { MatchOption result (NoPair high low) (λ b. Pair b high low) }
 {
-    let h = hex_value(high)?;
-    let l = hex_value(low)?;
-    Some(h * 16 + l)
+    Some(hex_value(high)? * 16 + hex_value(low)?)
 }

@@ -1,9 +1,9 @@
 // Words of the command line: how a line falls into words, and how values, plans and numbers are read and printed.
 #![tactic(auto)]
 
+mod cut;
 mod digits;
 mod fault;
-mod find;
 mod hex;
 mod line;
 mod number;
@@ -11,6 +11,7 @@ mod parts;
 mod plan;
 mod reading;
 mod showing;
+mod signed;
 mod tens;
 
 pub use fault::WordFault;

@@ -9,8 +9,7 @@ use crate::fault::WordFault;
 pub fn read_number(word: &[u8], limit: usize) -> Result<usize, WordFault>
     ensures { result ≡ number_under limit (number_word 9 word.now) }
 {
-    match digits_value(word, 9) {
-        Some(n) if n as usize <= limit => Ok(n as usize),
-        _ => Err(WordFault::Form),
-    }
+    digits_value(word, 9)
+        .filter(|n| *n <= limit)
+        .ok_or(WordFault::Form)
 }

@@ -1,35 +1,22 @@
 use crate::digits::digits_value;
 use crate::fault::WordFault;
-use crate::find::find;
+use crate::signed::{signed_value, split_sign};
 use keys::{Decimal, Sign};
 use std::alloc::Global;
 
-// The decimal that a word writes by its sign, exponent and digits in base 100, as `+1:12,50`.
-pub fn read_parts(heap: Global, word: &[u8]) -> Result<Decimal, WordFault> {
-    let (sign, body) = match word {
-        [b'+', body @ ..] => (Sign::Positive, body),
-        [b'-', body @ ..] => (Sign::Negative, body),
-        _ => return Err(WordFault::Form),
-    };
-    let (front, behind) = body.split_at(find(body, b':'));
-    let [_, list @ ..] = behind else {
-        return Err(WordFault::Form);
-    };
-    let exponent = read_exponent(front)?;
+// The decimal that a word writes by its sign and exponent before a colon and its digits in base 100 behind it, as `+1:12,50`.
+pub(crate) fn read_parts(heap: Global, front: &[u8], list: &[u8]) -> Result<Decimal, WordFault> {
+    let (sign, word) = split_sign(front).ok_or(WordFault::Form)?;
+    let exponent = exponent_of(word).ok_or(WordFault::Form)?;
     let digits = read_list(heap, list)?;
     Ok(Decimal::new(sign, exponent, digits.as_slice())?)
 }
 
 // An exponent: 1 to 3 digits behind an optional minus.
-fn read_exponent(word: &[u8]) -> Result<i32, WordFault> {
-    let (negative, digits) = match word {
-        [b'-', digits @ ..] => (true, digits),
-        _ => (false, word),
-    };
-    match digits_value(digits, 3) {
-        Some(n) if negative => Ok(-(n as i32)),
-        Some(n) => Ok(n as i32),
-        None => Err(WordFault::Form),
+fn exponent_of(word: &[u8]) -> Option<i32> {
+    match word {
+        [b'-', digits @ ..] => signed_value(Sign::Negative, digits, 3),
+        digits => signed_value(Sign::Positive, digits, 3),
     }
 }
 
@@ -39,16 +26,9 @@ fn read_list(heap: Global, list: &[u8]) -> Result<Vec<u8>, WordFault> {
     if list.is_empty() {
         return Ok(digits);
     }
-    let mut rest = list;
-    loop {
-        let (word, behind) = rest.split_at(find(rest, b','));
-        let Some(n) = digits_value(word, 3) else {
-            return Err(WordFault::Form);
-        };
-        digits.push(n.min(255) as u8)?;
-        let [_, next @ ..] = behind else {
-            return Ok(digits);
-        };
-        rest = next;
+    for word in list.split(|b| *b == b',') {
+        let n = digits_value(word, 3).ok_or(WordFault::Form)?;
+        digits.push(u8::try_from(n).unwrap_or(u8::MAX))?;
     }
+    Ok(digits)
 }

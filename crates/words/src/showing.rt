@@ -3,7 +3,7 @@ ghost use Rattle.codes.specs.Means.{datum_of, number_of, text_of};
 ghost use Rattle.codes.specs.Values.{decimal};
 ghost use Rattle.words.specs.Values.{Shown, all_typable, quoted, text_shown, tilded, typable};
 
-use crate::digits::{push_zeros, without_back_zeros, without_front_zeros};
+use crate::digits::{push_zeros, without_back_zeros};
 use crate::hex::push_hex;
 use keys::{Amount, Decimal, Sign, Text, Value};
 use std::alloc::{AllocError, Global};
@@ -20,7 +20,7 @@ pub fn push_value(
     match value {
         Value::Null => out.extend_from_slice(b"null"),
         Value::Decimal(d) => push_decimal(heap, out, d),
-        Value::Text(text) => push_text(out, text_bytes(text, texts)),
+        Value::Text(text) => push_text(out, text.bytes(texts)),
     }
 }
 
@@ -32,15 +32,6 @@ fn push_decimal(heap: Global, out: &mut Vec<u8>, d: Decimal) -> Result<(), Alloc
         Decimal::Zero => out.extend_from_slice(b"0"),
         Decimal::Amount(amount) => push_amount(heap, out, &amount),
     }
-}
-
-// The bytes of a text, in those that are lent beside it: what there is of them.
-fn text_bytes(text: Text, texts: &[u8]) -> &[u8]
-    ensures { result.now ≡ text_of text texts.now }
-{
-    let start = text.start.min(texts.len());
-    let len = text.len.min(texts.len() - start);
-    &texts[start..start + len]
 }
 
 // Adds a text: in marks where each of its bytes can be typed between them, else as hexadecimal pairs behind a tilde.
@@ -58,9 +49,9 @@ fn push_text(out: &mut Vec<u8>, text: &[u8]) -> Result<(), AllocError>
 fn push_quoted(out: &mut Vec<u8>, text: &[u8]) -> Result<(), AllocError>
     ensures { OnOk result (out.new.items ≡ out.old.items ++ quoted text.now) }
 {
-    out.extend_from_slice(b"\"")?;
+    out.push(b'"')?;
     out.extend_from_slice(text)?;
-    out.extend_from_slice(b"\"")?;
+    out.push(b'"')?;
     Ok(())
 }
 
@@ -68,39 +59,35 @@ fn push_quoted(out: &mut Vec<u8>, text: &[u8]) -> Result<(), AllocError>
 fn push_tilded(out: &mut Vec<u8>, text: &[u8]) -> Result<(), AllocError>
     ensures { OnOk result (out.new.items ≡ out.old.items ++ tilded text.now) }
 {
-    out.extend_from_slice(b"~")?;
-    push_hex(out, text)?;
-    Ok(())
+    out.push(b'~')?;
+    push_hex(out, text)
 }
 
 // Whether a byte is printable ASCII and no mark.
 fn is_typable(b: u8) -> bool
     ensures { result ≡ typable b }
 {
-    b >= 0x20 && b <= 0x7E && b != b'"'
+    matches!(b, b' '..=b'~') && b != b'"'
 }
 
 // Whether each byte is printable ASCII and no mark.
 fn can_be_quoted(text: &[u8]) -> bool
     ensures { result ≡ all_typable text.now }
 {
-    for b in text {
-        if !is_typable(*b) {
-            return false;
-        }
-    }
-    true
+    text.iter().all(|b| is_typable(*b))
 }
 
 // Adds a decimal other than zero.
 fn push_amount(heap: Global, out: &mut Vec<u8>, amount: &Amount) -> Result<(), AllocError> {
-    if let Sign::Negative = amount.sign() {
+    if amount.sign() == Sign::Negative {
         out.push(b'-')?;
     }
     let all = unpaired(heap, amount.digits())?;
-    let digits = without_front_zeros(all.as_slice());
-    let end = 2 * amount.exponent() - (all.len() - digits.len()) as i32;
-    push_tens(heap, out, without_back_zeros(digits), end)
+    let end = 2 * amount.exponent();
+    match all.as_slice() {
+        [b'0', digits @ ..] => push_tens(heap, out, without_back_zeros(digits), end - 1),
+        digits => push_tens(heap, out, without_back_zeros(digits), end),
+    }
 }
 
 // Each digit of base 100 as two of base ten.
@@ -119,23 +106,30 @@ fn push_tens(heap: Global, out: &mut Vec<u8>, digits: &[u8], end: i32) -> Result
     requires few { length digits.now ≤ 32 }
     requires range { unsigned_abs end ≤ 1000 }
 {
-    let power = end - digits.len() as i32;
-    if end < 1 && end > -6 {
-        out.extend_from_slice(b"0.")?;
-        push_zeros(out, (-end) as usize)?;
-        out.extend_from_slice(digits)?;
-    } else if end < 1 || end > 20 {
-        let shown = format!(in heap; "e{power}")?;
-        out.extend_from_slice(digits)?;
-        out.extend_from_slice(shown.as_bytes())?;
-    } else if power >= 0 {
-        out.extend_from_slice(digits)?;
-        push_zeros(out, power as usize)?;
-    } else {
-        let (whole, fraction) = digits.split_at(end as usize);
-        out.extend_from_slice(whole)?;
-        out.push(b'.')?;
-        out.extend_from_slice(fraction)?;
+    // Each cast keeps its number, 0 to 32: `try_from` would need an error that never comes.
+    match end {
+        -5..=0 => {
+            out.extend_from_slice(b"0.")?;
+            push_zeros(out, end.unsigned_abs() as usize)?;
+            out.extend_from_slice(digits)
+        }
+        1..=20 => push_pointed(out, digits, end as usize),
+        _ => {
+            let shown = format!(in heap; "e{}", end - digits.len() as i32)?;
+            out.extend_from_slice(digits)?;
+            out.extend_from_slice(shown.as_bytes())
+        }
     }
-    Ok(())
+}
+
+// Adds digits with a point behind so many of them, or with zeros behind them where they are no more.
+fn push_pointed(out: &mut Vec<u8>, digits: &[u8], end: usize) -> Result<(), AllocError> {
+    if digits.len() <= end {
+        out.extend_from_slice(digits)?;
+        return push_zeros(out, end - digits.len());
+    }
+    let (whole, fraction) = digits.split_at(end);
+    out.extend_from_slice(whole)?;
+    out.push(b'.')?;
+    out.extend_from_slice(fraction)
 }

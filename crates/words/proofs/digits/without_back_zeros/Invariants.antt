@@ -1,8 +1,8 @@
-use Rattle.std.proofs.Common.{◌≡◌, ◌-◌, ◌≤◌, length, drop, replicate}
+use Rattle.std.proofs.Common.{◌≡◌, ℕ, ◌++◌, length, replicate}
 use Rattle.words.proofs.digits.without_back_zeros.Given as goal
 
-abbrev pub invariant-loop-n : goal.invariant-loop-n
-invariant-loop-n l = (l.n ≤ length l.digits) × (drop l.n l.digits ≡ replicate (length l.digits - l.n) 48)
+abbrev pub invariant-loop-digits : goal.invariant-loop-digits
+invariant-loop-digits l = (z : ℕ) × (l.fn.digits ≡ l.digits ++ replicate z 48)
 
-abbrev pub decreases-loop-n : goal.decreases-loop-n
-decreases-loop-n l = l.n
+abbrev pub decreases-loop-digits : goal.decreases-loop-digits
+decreases-loop-digits l = length l.digits

@@ -1,8 +1,8 @@
-use Rattle.std.proofs.Common.{◌≡◌, ◌-◌, ◌≤◌, length, take, replicate}
+use Rattle.std.proofs.Common.{◌≡◌, ℕ, ◌++◌, length, replicate}
 use Rattle.words.proofs.digits.without_front_zeros.Given as goal
 
-abbrev pub invariant-loop-n : goal.invariant-loop-n
-invariant-loop-n l = (l.n ≤ length l.digits) × (take l.n l.digits ≡ replicate l.n 48)
+abbrev pub invariant-loop-digits : goal.invariant-loop-digits
+invariant-loop-digits l = (z : ℕ) × (l.fn.digits ≡ replicate z 48 ++ l.digits)
 
-abbrev pub decreases-loop-n : goal.decreases-loop-n
-decreases-loop-n l = length l.digits - l.n
+abbrev pub decreases-loop-digits : goal.decreases-loop-digits
+decreases-loop-digits l = length l.digits

@@ -1,6 +1,4 @@
-use Rattle.std.proofs.Common.{◌++◌, vec_items, ap, ◌∙◌}
-use Rattle.std.proofs.lemmas.List.{take_all}
-use Rattle.words.specs.Hex.{hex}
+use Rattle.std.proofs.Common.{vec_items}
 use Rattle.words.proofs.Pairs.{push_more}
 use Rattle.words.proofs.hex.push_hex.Goals as goal
 
@@ -9,7 +7,3 @@ loop-b-preserved c =
     push_more (vec_items c.args.out.now) (vec_items c.loop-b.out) (vec_items c.extend_from_slice.new.self) c.args.bytes.now c.loop-b.b-index
     c.hex_digit.result c.hex_digit-in-loop-b.result c.in_ok-extend_from_slice.ensures.items
     c.hex_digit.ensures c.hex_digit-in-loop-b.ensures c.loop-b-test.true c.loop-b.invariant
-
-pub returns : goal.returns
-returns c =
-    c.loop-b.invariant ∙ ap (λ l. vec_items c.args.out.now ++ hex l) (take_all c.loop-b.b-index c.args.bytes.now c.loop-b-test.false)

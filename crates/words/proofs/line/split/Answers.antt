@@ -1,33 +1,29 @@
-use Rattle.std.proofs.Common.{◌≡◌, ℕ, ◌-◌, ◌<◌, List, length, take, drop, vec_items, sym, ap, ◌∙◌, subst, arith}
-use Rattle.std.proofs.lemmas.List.{map_push, take_all, take_rest}
-use Rattle.words.specs.Lines.{Falls, IsWord, lent}
-use Rattle.words.proofs.Splits.{Sofar, more, last, parted}
+use Rattle.std.proofs.Common.{◌≡◌, ◌<◌, length, List, ℕ, [], ◌∷◌, ◌++◌, vec_items, Option, None, sym, ap, ◌∙◌, subst, arith}
+use Rattle.std.specs.Borrow.{Bor}
+use Rattle.std.specs.Option.{MatchOption}
+use Rattle.std.proofs.lemmas.List.{map_push}
+use Rattle.words.specs.Lines.{Falls, lent}
+use Rattle.std.proofs.lemmas.Result.{err_from_is_err_and}
+use Rattle.words.proofs.Fronts.{no_words}
+use Rattle.words.proofs.Splits.{Sofar, pushed}
 use Rattle.words.proofs.line.split.Goals as goal
 
-pub returns-then-behind-eq0 : goal.returns-then-behind-eq0
-returns-then-behind-eq0 c =
+pub loop-rest-preserved : goal.loop-rest-preserved
+loop-rest-preserved c =
     let line = c.args.line.now in
-    let rest = c.loop-len.rest.now in
-    let w = c.split_at.result.0 in
-    let front = c.in-Some.ensures in
-    let parts = c.split_at.ensures in
-    let whole : rest ≡ w.now = sym (parts.front ∙ take_all c.in-Some.len rest (omega (arith, parts.back_len, c.if-behind-eq0.true))) in
-    let words = vec_items c.loop-len.words in
-    let pushed = ap lent c.in_ok-push.ensures.items ∙ map_push (λ r. r.now) words w in
-    subst (λ (ws : List (List ℕ)). Falls line ws) (sym pushed)
-    (last line (lent words) rest w.now c.loop-len.invariant (subst IsWord (sym parts.front) front.word) whole)
+    let words = vec_items c.loop-rest.words in
+    let w = c.in_ok-word.word in
+    let behind = c.in_ok-word.behind in
+    let P : List (List ℕ) → Option (Bor (List ℕ)) → Type 0 = λ ws o. MatchOption o (Falls line ws × (0 < length ws)) (λ b. Sofar line ws b.now) in
+    let more : lent (vec_items c.push.new.self) ≡ lent words ++ (w.now ∷ []) = ap lent c.in_ok-push.ensures.items ∙ map_push (λ r. r.now) words w in
+    subst (λ (ws : List (List ℕ)). P ws behind) (sym more)
+    (pushed line (lent words) c.in-Some.bytes.now w.now behind (subst (λ (o : Option (Bor (List ℕ))). P (lent words) o) c.in-Some.is c.loop-rest.invariant) (rw c.in_ok-word.ensures.ok_part at c.first_word.ensures))
 
-pub loop-len-preserved : goal.loop-len-preserved
-loop-len-preserved c =
+pub returns-in_err-word : goal.returns-in_err-word
+returns-in_err-word c =
     let line = c.args.line.now in
-    let rest = c.loop-len.rest.now in
-    let w = c.split_at.result.0 in
-    let behind = c.split_at.result.1.now in
-    let next = take (length behind - 1) (drop 1 behind) in
-    let front = c.in-Some.ensures in
-    let parts = c.split_at.ensures in
-    let some : 0 < length behind = omega arith in
-    let words = vec_items c.loop-len.words in
-    let pushed = ap lent c.in_ok-push.ensures.items ∙ map_push (λ r. r.now) words w in
-    subst (λ (ws : List (List ℕ)). Sofar line ws next) (sym pushed)
-    (more line (lent words) rest w.now next c.loop-len.invariant (subst IsWord (sym parts.front) front.word) (parted rest w.now behind next c.in-Some.len front parts.front parts.back some (take_rest behind 1)))
+    let bytes = c.in-Some.bytes.now in
+    let missing : c.first_word.result ≡ None = grind (arith, c.in_err-word.ensures.value) in
+    let P : Option (Bor (List ℕ)) → Type 0 = λ o. MatchOption o (Falls line (lent (vec_items c.loop-rest.words)) × (0 < length (lent (vec_items c.loop-rest.words)))) (λ b. Sofar line (lent (vec_items c.loop-rest.words)) b.now) in
+    let sofar = subst P c.in-Some.is c.loop-rest.invariant in
+    let p = err_from_is_err_and c.from_residual.result c.from_residual.ensures.1 in rw p.1 (λ _. sofar.2 (no_words bytes (rw missing at c.first_word.ensures)))

@@ -1,17 +1,9 @@
-use Rattle.std.proofs.Common.{◌≡◌, ℕ, ◌+◌, ◌-◌, List, length, take, drop, vec_items, sym, refl, ◌∙◌, subst, arith}
-use Rattle.codes.specs.Values.{text}
-use Rattle.words.specs.Values.{Writes}
-use Rattle.words.proofs.Texts.{quoted_writes, headed}
+use Rattle.std.proofs.Common.{◌<◌, length, rules}
+use Rattle.words.proofs.Fronts.{not_last}
 use Rattle.words.proofs.reading.read_quoted.Goals as goal
 
-pub returns : goal.returns
-returns c =
-    let w = c.args.word.now in
-    let bs = take (length w - 1) (drop 1 w) in
-    let i = c.find.result in
-    let parts = c.split_at.ensures in
-    let one : i + 1 ≡ length bs = omega (arith, parts.back_len, c.if-close-ne1.false) in
-    subst (λ (l : List ℕ). Writes l (text (take (length c.split_at.result.0.now) (drop c.len-start.result (vec_items c.extend_from_slice.new.self))))) (headed w 34 c.requires.some c.requires.mark)
-    (quoted_writes bs c.split_at.result.0.now (vec_items c.args.texts.now) (vec_items c.extend_from_slice.new.self) c.len-start.result (length c.split_at.result.0.now) i
-    (sym (c.len-start.ensures ∙ c.args.texts.now.ok.0)) parts.front refl one (c.find.ensures.found (omega arith)) c.find.ensures.before
-    c.in_ok-extend_from_slice.ensures.items)
+pub returns-then-not-is_empty : goal.returns-then-not-is_empty
+returns-then-not-is_empty c =
+    let close = c.in_ok-ok_or.field-0.now in
+    let some : 0 < length close = search rules in
+    λ _. not_last c.args.behind.now c.cut_at.result.0.now close c.cut_at.ensures.before (rw c.in_ok-ok_or.ensures.ok_part at c.cut_at.ensures.parts) some
