@@ -18,20 +18,10 @@ pub fn columns_of(heap: Global, word: &str) -> anyhow::Result<Vec<Direction>> {
 
 // A byte for each pair of hexadecimal digits, and none for "-".
 pub fn bytes_of(heap: Global, word: &str) -> anyhow::Result<Vec<u8>> {
-    let mut bytes = Vec::new(heap);
-    if word == "-" {
-        return Ok(bytes);
+    match word {
+        "-" => Ok(Vec::new(heap)),
+        _ => Ok(hex::decode(heap, word)?),
     }
-    if word.len() % 2 != 0 {
-        return Err(anyhow!("half a byte"));
-    }
-    for i in 0..word.len() / 2 {
-        match word.get(2 * i..2 * i + 2) {
-            Some(pair) => bytes.push(u8::from_str_radix(pair, 16)?)?,
-            None => return Err(anyhow!("no hexadecimal digits")),
-        }
-    }
-    Ok(bytes)
 }
 
 // The numbers between the commas, and none for "-".

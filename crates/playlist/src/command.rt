@@ -1,7 +1,8 @@
+use crate::key::Key;
 use crate::row::Row;
 use keys::{KeyFault, Plan};
 use std::alloc::Global;
-use words::{WordFault, read_hex, read_number, read_plan, split};
+use words::{WordFault, read_number, read_plan, split};
 
 // The largest number that a word of 9 digits writes.
 const MAX_NUMBER: usize = 999_999_999;
@@ -15,9 +16,9 @@ pub enum Command {
     // writes the key of a row
     Key(Plan, Row),
     // reads a key
-    Read(Plan, Vec<u8>),
+    Read(Key),
     // reads a column of a key, with an output of so many bytes
-    Column(Plan, Vec<u8>, usize, usize),
+    Column(Key, usize, usize),
     // begins a day, whose rows answer for a plan that is refused
     Day(Result<Plan, KeyFault>),
 }
@@ -28,63 +29,19 @@ pub fn read_command(heap: Global, line: &[u8]) -> Result<Command, WordFault> {
     let [name, rest @ ..] = words.as_slice() else {
         return Err(WordFault::Form);
     };
-    match *name {
-        b"key" => read_key(heap, rest),
-        b"read" => read_read(heap, rest),
-        b"column" => read_column(heap, rest),
-        b"day" => read_day(rest),
-        _ => Err(WordFault::Form),
-    }
-}
-
-// `key PLAN VALUE..`
-fn read_key(heap: Global, words: &[&[u8]]) -> Result<Command, WordFault> {
-    let [plan, values @ ..] = words else {
-        return Err(WordFault::Form);
-    };
-    if values.is_empty() {
-        return Err(WordFault::Form);
-    }
-    let plan = read_plan(*plan)?;
-    Ok(Command::Key(plan, Row::read(heap, values)?))
-}
-
-// `read PLAN HEX`
-fn read_read(heap: Global, words: &[&[u8]]) -> Result<Command, WordFault> {
-    match words {
-        [plan, key] => {
+    match (*name, rest) {
+        (b"key", [plan, values @ ..]) if !values.is_empty() => {
             let plan = read_plan(*plan)?;
-            Ok(Command::Read(plan, read_bytes(heap, *key)?))
+            Ok(Command::Key(plan, Row::read(heap, values)?))
         }
-        _ => Err(WordFault::Form),
-    }
-}
-
-// `column PLAN HEX C ROOM`
-fn read_column(heap: Global, words: &[&[u8]]) -> Result<Command, WordFault> {
-    match words {
-        [plan, key, column, room] => {
-            let plan = read_plan(*plan)?;
-            let key = read_bytes(heap, *key)?;
+        (b"read", [plan, key]) => Ok(Command::Read(Key::read(heap, *plan, *key)?)),
+        (b"column", [plan, key, column, room]) => {
+            let key = Key::read(heap, *plan, *key)?;
             let column = read_number(*column, MAX_NUMBER)?;
             let room = read_number(*room, MAX_ROOM)?;
-            Ok(Command::Column(plan, key, column, room))
+            Ok(Command::Column(key, column, room))
         }
-        _ => Err(WordFault::Form),
-    }
-}
-
-// The bytes that a word of hexadecimal pairs writes.
-fn read_bytes(heap: Global, word: &[u8]) -> Result<Vec<u8>, WordFault> {
-    let mut bytes = Vec::new(heap);
-    read_hex(word, &mut bytes)?;
-    Ok(bytes)
-}
-
-// `day PLAN`
-fn read_day(words: &[&[u8]]) -> Result<Command, WordFault> {
-    match words {
-        [plan] => Ok(Command::Day(read_plan(*plan))),
+        (b"day", [plan]) => Ok(Command::Day(read_plan(*plan))),
         _ => Err(WordFault::Form),
     }
 }

@@ -10,20 +10,18 @@ pub fn without_newline(line: &[u8]) -> &[u8] {
     }
 }
 
-// Puts argument `i` into `line`, and tells whether there is one.
-pub fn argument(rt: &HostRuntime, i: usize, line: &mut Vec<u8>) -> Result<bool, AllocError> {
-    let mut room: usize = 256;
+// Argument `i`, which may be any bytes, if there is one. A place too short for it is doubled.
+pub fn argument(rt: &HostRuntime, i: usize) -> Result<Option<Vec<u8>>, AllocError> {
+    let mut line = vec![in rt.alloc(); 0u8; 256]?;
     for _ in 0..32 {
-        line.clear();
-        line.resize(room, 0)?;
         match rt.arg(i, line.as_mut_slice()) {
             Ok(len) => {
                 line.truncate(len);
-                return Ok(true);
+                return Ok(Some(line));
             }
-            Err(FillError::NotPresent) => return Ok(false),
-            Err(FillError::TooLong) => room = room.saturating_mul(2),
+            Err(FillError::NotPresent) => return Ok(None),
+            Err(FillError::TooLong) => line.resize(line.len().saturating_mul(2), 0)?,
         }
     }
-    Ok(false)
+    Ok(None)
 }

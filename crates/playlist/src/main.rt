@@ -5,7 +5,7 @@ mod command;
 mod day;
 mod failure;
 mod input;
-mod reading;
+mod key;
 mod row;
 mod session;
 
@@ -24,11 +24,9 @@ fn main(rt: HostRuntime) -> ExitCode {
 
 // Runs the commands of the arguments where there are any, else those of standard input.
 fn run(rt: &HostRuntime) -> Result<(), Failure> {
-    let mut first = Vec::new(rt.alloc());
-    if argument(rt, 1, &mut first)? {
-        run_arguments(rt)
-    } else {
-        run_input(rt)
+    match argument(rt, 1)? {
+        Some(first) => run_arguments(rt, first),
+        None => run_input(rt),
     }
 }
 
@@ -36,6 +34,7 @@ fn run(rt: &HostRuntime) -> Result<(), Failure> {
 fn run_input(rt: &HostRuntime) -> Result<(), Failure> {
     let mut session = Session::new(rt.alloc());
     let mut input = BufReader::new(rt.alloc(), rt.stdin())?;
+    // One buffer for all lines: `split`, which makes a vector for each, was tried and took a fifth longer.
     let mut line = Vec::new(rt.alloc());
     for _ in 0..u64::MAX {
         line.clear();
@@ -50,13 +49,15 @@ fn run_input(rt: &HostRuntime) -> Result<(), Failure> {
 }
 
 // Runs the commands that the arguments give, and fails if any was refused or bad.
-fn run_arguments(rt: &HostRuntime) -> Result<(), Failure> {
+fn run_arguments(rt: &HostRuntime, first: Vec<u8>) -> Result<(), Failure> {
     let mut session = Session::new(rt.alloc());
-    let mut line = Vec::new(rt.alloc());
-    for i in 1..usize::MAX {
-        if !argument(rt, i, &mut line)? {
+    session.take_line(first.as_slice())?;
+    write_answers(rt, &mut session)?;
+    // Each argument is asked for by its number: the library's list of arguments takes text alone, and a line may be any bytes.
+    for i in 2..usize::MAX {
+        let Some(line) = argument(rt, i)? else {
             break;
-        }
+        };
         session.take_line(line.as_slice())?;
         write_answers(rt, &mut session)?;
     }

@@ -1,8 +1,6 @@
 use crate::command::{Command, read_command};
 use crate::day::Day;
 use crate::failure::Failure;
-use crate::reading::{value_of, values_of};
-use keys::KeyFault;
 use refusals::Refusal;
 use std::alloc::{AllocError, Global};
 use words::{WordFault, push_hex};
@@ -42,88 +40,73 @@ impl Session {
     pub fn take_line(&mut self, line: &[u8]) -> Result<(), Failure> {
         match line {
             [] | [b'#', ..] => Ok(()),
-            _ => self.answer_line(line),
+            _ => match self.try_line(line) {
+                Ok(()) => Ok(()),
+                Err(fault) => self.refuse(fault),
+            },
         }
     }
 
     // Ends the input: a day that is still open ends too.
     pub fn finish(&mut self) -> Result<(), Failure> {
-        match self.day.take() {
-            Some(day) => self.end_day(day),
-            None => Ok(()),
+        if let Some(day) = self.day.take() {
+            self.end_day(day)?;
         }
+        Ok(())
     }
 
-    fn answer_line(&mut self, line: &[u8]) -> Result<(), Failure> {
+    // Answers a line, or says why it cannot be answered.
+    fn try_line(&mut self, line: &[u8]) -> Result<(), WordFault> {
         match self.day.take() {
             Some(day) => self.take_row(day, line),
-            None => self.run(read_command(self.heap, line)),
+            None => self.run(read_command(self.heap, line)?),
         }
     }
 
     // Takes a line of a day.
-    fn take_row(&mut self, mut day: Day, line: &[u8]) -> Result<(), Failure> {
+    fn take_row(&mut self, mut day: Day, line: &[u8]) -> Result<(), WordFault> {
         if let b"end" = line {
-            return self.end_day(day);
+            return Ok(self.end_day(day)?);
         }
         let added = day.add(self.heap, line);
         self.day = Some(day);
-        match added {
-            Ok(()) => Ok(()),
-            Err(fault) => self.refuse(fault),
-        }
+        added
     }
 
-    // Runs a command, if the line was one.
-    fn run(&mut self, command: Result<Command, WordFault>) -> Result<(), Failure> {
+    // Runs a command.
+    fn run(&mut self, command: Command) -> Result<(), WordFault> {
+        let mut shown = Vec::new(self.heap);
         match command {
-            Ok(Command::Key(plan, row)) => match row.key(self.heap, &plan) {
-                Ok(key) => self.answer_key(key.as_slice()),
-                Err(fault) => self.refuse(fault),
-            },
-            Ok(Command::Read(plan, key)) => {
-                let shown = values_of(self.heap, &plan, key.as_slice());
-                self.answer(shown)
+            Command::Key(plan, row) => {
+                shown.push(b' ')?;
+                push_hex(&mut shown, row.key(self.heap, &plan)?.as_slice())?;
             }
-            Ok(Command::Column(plan, key, column, room)) => {
-                let shown = value_of(self.heap, &plan, key.as_slice(), column, room);
-                self.answer(shown)
+            Command::Read(key) => key.push_values(self.heap, &mut shown)?,
+            Command::Column(key, column, room) => {
+                key.push_value(self.heap, &mut shown, column, room)?
             }
-            Ok(Command::Day(plan)) => {
+            Command::Day(plan) => {
                 self.day = Some(Day::new(self.heap, plan));
-                Ok(())
+                return Ok(());
             }
-            Err(fault) => self.refuse(fault),
         }
-    }
-
-    // `ok HEX`
-    fn answer_key(&mut self, key: &[u8]) -> Result<(), Failure> {
-        self.answers.extend_from_slice(b"ok ")?;
-        push_hex(&mut self.answers, key)?;
-        self.answers.extend_from_slice(b"\n")?;
+        self.answer(shown.as_slice())?;
         Ok(())
     }
 
-    // `ok` with what stands behind it, or the fault.
-    fn answer(&mut self, shown: Result<Vec<u8>, WordFault>) -> Result<(), Failure> {
-        match shown {
-            Ok(text) => {
-                self.answers.extend_from_slice(b"ok")?;
-                self.answers.extend_from_slice(text.as_slice())?;
-                self.answers.extend_from_slice(b"\n")?;
-                Ok(())
-            }
-            Err(fault) => self.refuse(fault),
-        }
+    // `ok` with what stands behind it.
+    fn answer(&mut self, shown: &[u8]) -> Result<(), AllocError> {
+        self.answers.extend_from_slice(b"ok")?;
+        self.answers.extend_from_slice(shown)?;
+        self.answers.push(b'\n')?;
+        Ok(())
     }
 
     // The rows of a day, then `ok N`.
-    fn end_day(&mut self, day: Day) -> Result<(), Failure> {
+    fn end_day(&mut self, day: Day) -> Result<(), AllocError> {
         let count = day.push_rows(&mut self.answers)?;
         let text = format!(in self.heap; "ok {count}\n")?;
-        self.answers.extend_from_slice(text.as_bytes())?;
-        Ok(())
+        self.answers.extend_from_slice(text.as_bytes())
     }
 
     // `bad line`, or `no` with the refusal's number and values.
