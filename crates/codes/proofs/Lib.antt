@@ -1,4 +1,3 @@
-pub mod Scans
 pub mod Puts
 pub mod Marks
 pub mod Plains

@@ -110,12 +110,6 @@ Onward b i digits =
     ((ds : List ℕ) (n : ℕ) → Starts (From i) mantissa (drop i b) ds n → Starts (From 0) mantissa b (digits ++ ds) (i + n))
     × ((p : ℕ) → Stops (From i) mantissa (drop i b) p → Stops (From 0) mantissa b (i + p))
 
-pub onward_start : (b : List ℕ) → Onward b 0 []
-onward_start b = (
-  λ ds n s. subst (λ (k : ℕ). Starts (From 0) mantissa b ds k) (sym (zero-add n)) s,
-  λ p s. subst (λ (k : ℕ). Stops (From 0) mantissa b k) (sym (zero-add p)) s,
-)
-
 module _ (b : List ℕ) (i : ℕ) (digits : List ℕ) (d : ℕ) (on : Onward b i digits) (h : i < length b) where
   next : drop i b ≡ get_or b i 0 ∷ drop (i + 1) b
   next = rw add-one (drop-cons b i 0 h)

@@ -20,10 +20,6 @@ pub no_zero_all : (xs : List ℕ) → list_all (λ b. not (eqb b 0)) xs ≡ no_z
 no_zero_all [] = refl
 no_zero_all (x ∷ xs) = ap (λ t. t && list_all (λ b. not (eqb b 0)) xs) (same x) ∙ ap (λ t. ltb 0 x && t) (no_zero_all xs)
 
-pub no_zero_each : (xs : List ℕ) → Bytes xs → no_zero xs ≡ true → TextBytes xs
-no_zero_each [] t h = tt
-no_zero_each (x ∷ xs) t h = let p = and_parts (ltb 0 x) (no_zero xs) h in ((ltb-true 0 x p.0, t.0), no_zero_each xs t.1 p.1)
-
 -- bytes as they are seen are bytes
 seen_byte : (f : Bool) (xs : List ℕ) (i : ℕ) → i < length xs → Bytes xs → see_as f (get_or xs i 0) < 256
 seen_byte f [] i h t = absurd (omega arith)

@@ -18,7 +18,11 @@ pub enum Command {
     // reads a key
     Read(Key),
     // reads a column of a key, with an output of so many bytes
-    Column(Key, usize, usize),
+    Column {
+        key: Key,
+        column: usize,
+        room: usize,
+    },
     // begins a day, whose rows answer for a plan that is refused
     Day(Result<Plan, KeyFault>),
 }
@@ -39,7 +43,7 @@ pub fn read_command(heap: Global, line: &[u8]) -> Result<Command, WordFault> {
             let key = Key::read(heap, *plan, *key)?;
             let column = read_number(*column, MAX_NUMBER)?;
             let room = read_number(*room, MAX_ROOM)?;
-            Ok(Command::Column(key, column, room))
+            Ok(Command::Column { key, column, room })
         }
         (b"day", [plan]) => Ok(Command::Day(read_plan(*plan))),
         _ => Err(WordFault::Form),

@@ -10,7 +10,7 @@ pub fn without_newline(line: &[u8]) -> &[u8] {
     }
 }
 
-// Argument `i`, which may be any bytes, if there is one. A place too short for it is doubled.
+// Argument `i`, which may be any bytes, if there is one. A place too short for it is doubled: the loop counts tries, of which the 32nd has room for any argument.
 pub fn argument(rt: &HostRuntime, i: usize) -> Result<Option<Vec<u8>>, AllocError> {
     let mut line = vec![in rt.alloc(); 0u8; 256]?;
     for _ in 0..32 {

@@ -82,7 +82,7 @@ impl Session {
                 push_hex(&mut shown, row.key(self.heap, &plan)?.as_slice())?;
             }
             Command::Read(key) => key.push_values(self.heap, &mut shown)?,
-            Command::Column(key, column, room) => {
+            Command::Column { key, column, room } => {
                 key.push_value(self.heap, &mut shown, column, room)?
             }
             Command::Day(plan) => {

@@ -31,7 +31,7 @@ pub(crate) fn digits_value(word: &[u8], most: usize) -> Option<usize>
     Some(n)
 }
 
-// What is left of some digits without the zeros in front.
+// What is left of some digits without the zeros in front. One function for both ends would take a closure for each pattern, and be no plainer.
 pub(crate) fn without_front_zeros(mut digits: &[u8]) -> &[u8]
     ensures zeros { (z : ℕ) × (digits.now ≡ replicate z 48 ++ result.now) }
     ensures bare { slice_index result.now 0 ≢ 48 }

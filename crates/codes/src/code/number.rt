@@ -40,6 +40,7 @@ fn put_mantissa(digits: &Digits, out: &mut [u8])
 {
     let list = digits.list.as_slice();
     let last = list.len() - 1;
+    // An index into the output: `zip` with `out.iter_mut()` was tried, and nothing is known of the output after it.
     for (i, digit) in list.iter().enumerate() {
         out[i] = 2 * *digit + u8::from(i < last);
     }

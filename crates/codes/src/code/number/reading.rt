@@ -103,9 +103,7 @@ fn read_mantissa(source: Source) -> Result<Digits, Stop>
         if !is_mark(i, b) {
             return Err(Stop { at: i });
         }
-        let Ok(()) = list.push(b / 2) else {
-            unreachable()
-        };
+        list.push(b / 2).unwrap();
         if b % 2 == 0 {
             return Ok(Digits { list });
         }

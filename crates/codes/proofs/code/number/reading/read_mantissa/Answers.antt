@@ -19,23 +19,26 @@ returns-then-not-is_mark c =
 
 pub invariant_of-result : goal.invariant_of-result
 invariant_of-result c =
+    let pushed = rw c.unwrap.ensures at c.push.ensures in
     let x = c.see-b.result in
     let at = seen_at c.args.source.flipped c.args.source.bytes.now c.loop-i.i x c.loop-i-test.true c.see-b.ensures in
     let m = c.is_mark.ensures.0 c.if-not-is_mark.false in
     let t = onward_last (seen c.args.source) c.loop-i.i (listed c.loop-i.list) (x / 2) c.loop-i.invariant.2 at.0 (omega (arith, at.1)) c.loop-i.invariant.0 (omega (arith, m.0)) (omega (arith, m.1)) in
-    rw c.in-Ok.ensures.0 (record { row = t.0.0; trim = t.0.1 })
+    rw pushed.0 (record { row = t.0.0; trim = t.0.1 })
 
 pub returns-then-b-eq0 : goal.returns-then-b-eq0
 returns-then-b-eq0 c =
+    let pushed = rw c.unwrap.ensures at c.push.ensures in
     let x = c.see-b.result in
     let at = seen_at c.args.source.flipped c.args.source.bytes.now c.loop-i.i x c.loop-i-test.true c.see-b.ensures in
     let m = c.is_mark.ensures.0 c.if-not-is_mark.false in
     let t = onward_last (seen c.args.source) c.loop-i.i (listed c.loop-i.list) (x / 2) c.loop-i.invariant.2 at.0 (omega (arith, at.1)) c.loop-i.invariant.0 (omega (arith, m.0)) (omega (arith, m.1)) in
     let l = length-append (listed c.loop-i.list) (x / 2 ∷ []) in
-    rw c.in-Ok.ensures.0 (t.0, omega (arith, c.loop-i.invariant.1, l, t.1), t.2)
+    rw pushed.0 (t.0, omega (arith, c.loop-i.invariant.1, l, t.1), t.2)
 
 pub loop-i-preserved : goal.loop-i-preserved
 loop-i-preserved c =
+    let pushed = rw c.unwrap.ensures at c.push.ensures in
     let b = seen c.args.source in
     let i = c.loop-i.i in
     let x = c.see-b.result in
@@ -45,7 +48,7 @@ loop-i-preserved c =
     let p : x ≡ 2 * (x / 2) + 1 = omega arith in
     let last : i ≡ 15 → ⊥ = λ z. odd (m.3 z) in
     let l = length-append (listed c.loop-i.list) (x / 2 ∷ []) in
-    rw c.in-Ok.ensures.0 (
+    rw pushed.0 (
       omega (arith, c.loop-i.invariant.0),
       omega (arith, c.loop-i.invariant.1, l),
       onward_more b i (listed c.loop-i.list) (x / 2) c.loop-i.invariant.2 at.0 (at.1 ∙ p) (omega (arith, m.0)) (λ z. let q = m.2 z in omega arith),
