@@ -1,38 +1,11 @@
 -- Writes to the front of an output.
-use Rattle.std.proofs.Common.{◌≡◌, ℕ, suc, ◌+◌, ◌-◌, ◌<◌, ◌≤◌, min, List, [], ◌∷◌, ◌++◌, length, get_or, take, drop, set, sym, refl, ap, ◌∙◌, inl, inr, append_assoc, arith, length-drop, drop-cons}
+use Rattle.std.proofs.Common.{◌≡◌, ℕ, suc, ◌+◌, ◌-◌, ◌<◌, ◌≤◌, List, [], ◌∷◌, ◌++◌, length, get_or, drop, set, sym, ap, ◌∙◌, append_assoc, arith, drop-cons}
 use borrow.Rule.Slice.PartMut.{put_mid}
-use Rattle.std.proofs.lemmas.List.{length-map, drop_all, take_all, set_at}
-use Rattle.std.proofs.lemmas.Bool.{cases_lt}
+use Rattle.std.proofs.lemmas.List.{length-map, set_at}
 use Rattle.codes.specs.Strings.{flip, flipped}
 
 pub length_flipped : (xs : List ℕ) → length (flipped xs) ≡ length xs
 length_flipped xs = length-map xs flip
-
-take_min : (k : ℕ) (xs : List ℕ) → take (min k (length xs)) xs ≡ take k xs
-take_min k xs =
-    elim (cases_lt k (length xs)) [
-      | inl h ↦ let e : min k (length xs) ≡ k = omega arith in rw e refl
-      | inr h ↦ let e : min k (length xs) ≡ length xs = omega arith in
-          rw (e, take_all (length xs) xs (omega arith), take_all k xs h) refl
-    ]
-
--- a stretch of a list, clipped to the list
-pub clipped : (xs : List ℕ) (start len s l : ℕ) → s ≡ min start (length xs) → l ≡ min len (length xs - s) →
-    take (s + l - s) (drop s xs) ≡ take len (drop start xs)
-clipped xs start len s l e f =
-    elim (cases_lt start (length xs)) [
-      | inl h ↦
-          let p : s ≡ start = omega arith in
-          let q : s + l - s ≡ min len (length (drop start xs)) = simp length-drop (omega arith) in
-          rw (q, p) (take_min len (drop start xs))
-      | inr h ↦
-          let p : drop s xs ≡ [] = drop_all s xs (omega arith) in
-          let q : drop start xs ≡ [] = drop_all start xs h in
-          rw (p, q) (take_none (s + l - s) ∙ sym (take_none len))
-    ]
-  where
-    take_none : (n : ℕ) → take {A = ℕ} n [] ≡ []
-    take_none n = take_all n [] (omega arith)
 
 -- bytes between a first and a last one
 pub put_framed : (out bytes last : List ℕ) (n : ℕ) → n ≡ length bytes → n + 2 ≤ length out → last ≡ bytes →

@@ -4,7 +4,7 @@ use Rattle.std.proofs.lemmas.List.{get_or-take, take_all}
 use Rattle.std.specs.List.{AllWithin, HoldsAt, list_all}
 use Rattle.std.specs.Option.{MatchOption}
 use Rattle.std.proofs.ByRecursion.{All-from_get_or}
-use Rattle.std.proofs.lemmas.Bool.{and_parts, lt-ltb, ltb-true, ne_eqb}
+use Rattle.std.proofs.lemmas.Bool.{lt-ltb, ne_eqb}
 use Rattle.codes.specs.Strings.{Bytes}
 use Rattle.codes.specs.Sources.{FirstZero, see_as, seen_as}
 use Rattle.codes.specs.Values.{TextBytes, no_zero}

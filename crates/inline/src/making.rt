@@ -29,7 +29,7 @@ impl<T: Copy + Default, const N: usize> Inline<T, N> {
         Inline { items, count }
     }
 
-    // These values, or None where they are too many.
+    // These values, or None where they are too many. By name, as `new` and `from_front` are: three ways of making would be no plainer as traits.
     pub fn from_slice(values: &[T]) -> Option<Inline<T, N>>
         ensures { MatchOption result (N < length values.now) (λ list. listed list ≡ values.now) }
     {

@@ -12,7 +12,7 @@ mod refused;
 
 pub use refused::Refused;
 
-// A fault that has a number, with values beside it. A trait and not `From`: contracts of every layer cite its ghost member.
+// A fault that has a number, with values beside it. A trait and not `From`: what a call over any fault tells is its ghost member.
 pub trait Refusal {
     ghost told: { Self → Told };
 

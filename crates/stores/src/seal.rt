@@ -36,7 +36,7 @@ impl<S> Seal<S> {
 }
 
 impl<S: PageStore> Seal<S> {
-    // The length and the count of the sealed pages.
+    // The length and the count of the sealed pages. No generic function over stores makes it, since its call here would lead back to this implementation.
     #[tactic(auto, using(crate::specs::Eaches::length_each))]
     fn shape(&self) -> Shape
         ensures len { result.len ≡ S.len self.now.lower - 4 }

@@ -31,7 +31,7 @@ impl Shape {
         }
     }
 
-    // Where page p lies in an area of these pages.
+    // Where page p lies in an area of these pages. That the page is there stands here and where it is read and written: it ties a number to a store, which the type of neither can say.
     pub(crate) fn place(self, p: usize) -> Range<usize>
         requires { p < self.count }
         ensures start { result.start ≡ p * self.len }

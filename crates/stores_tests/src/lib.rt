@@ -57,6 +57,7 @@ mod tests {
         assert_eq!(rt; sums(&rt, rt.alloc(), 65535, 300, &MIXED)?, 0x0406_0c69);
         assert_eq!(rt; sums(&rt, rt.alloc(), 65535, 65000, &MIXED)?, 0x00c3_0c69);
         let mut long = Vec::new(rt.alloc());
+        // Bytes by a formula; the cast takes a remainder below 256.
         for j in 0u32..1020 {
             long.push(((37 * j + 11) % 256) as u8)?;
         }

@@ -1,6 +1,6 @@
 -- Bytes that begin with one word only, or with none.
 use Rattle.std.proofs.Common.{◌≡◌, ℕ, ◌<◌, true, false, ◌||◌, eqb, subst, Option, None, Some, List, [], ◌∷◌, ◌++◌, length, get_or, drop, sym, refl, ap, ◌∙◌, inl, inr, append_assoc, append-nil, arith}
-use borrow.Author.Tests.{eqb-true, eqb-false}
+use borrow.Author.Tests.{eqb-true}
 use Rattle.std.specs.Borrow.{Bor}
 use Rattle.std.specs.List.{list_any}
 use Rattle.std.specs.Option.{MatchOption}
@@ -59,11 +59,6 @@ held b [] h free = cc
 held b (x ∷ bs) h free =
     elim (eqb x b) as (λ t. eqb x b ≡ t → (t || list_any (λ x. eqb x b) bs) ≡ true → ⊥) [ true ↦ λ e _. free.0 (eqb-true x b e) | false ↦ λ _ k. held b bs k free.1 ] refl h
 
-pub unheld : (b : ℕ) (bs : List ℕ) → list_any (λ x. eqb x b) bs ≡ false → Free b bs
-unheld b [] h = tt
-unheld b (x ∷ bs) h =
-    elim (eqb x b) as (λ t. eqb x b ≡ t → (t || list_any (λ x. eqb x b) bs) ≡ false → Free b (x ∷ bs)) [ true ↦ λ _ k. cc | false ↦ λ e k. (eqb-false x b e, unheld b bs k) ] refl h
-
 -- with no word at the front there are none
 pub no_words : (bytes : List ℕ) → NoFirstWord bytes → NoWords bytes
 no_words bytes none w [] falls = none w [] falls.1.0 (inl refl) (sym falls.0 ∙ sym (append-nil w))
@@ -91,10 +86,6 @@ no_text bs none = (
   λ e. let h : 34 ≡ 110 = ap (λ l. get_or l 0 0) e in omega arith,
   λ t _ w. elim w [ inl q ↦ none t q.0 (ap (drop 1) q.1) | inr e ↦ let h : 34 ≡ 126 = ap (λ l. get_or l 0 0) e in omega arith ],
 )
-
-pub no_close : (bs : List ℕ) → Free 34 bs → NoText (34 ∷ bs)
-no_close bs free =
-    no_text bs (λ t f e. let same : [] ≡ 34 ∷ [] = (cut_once 34 bs t [] (34 ∷ []) free f (inl refl) (inr ([], refl)) (append-nil bs ∙ e)).1 in cc)
 
 pub not_last : (bs p close : List ℕ) → Free 34 p → bs ≡ p ++ (34 ∷ close) → 0 < length close → NoText (34 ∷ bs)
 not_last bs p close free cut some =

@@ -69,10 +69,3 @@ added_more w before items after i b e h k high low a = record {
   writes = sym (flat_map_more pair [] a.bytes b) ∙ (λ t. a.writes t ++ (high t ∷ (low t ∷ []))) ∙ sym (take_two w i h);
   joins = e ∙ ap (λ l. l ++ (b ∷ [])) a.joins ∙ append_assoc before a.bytes (b ∷ []);
 }
-
--- one byte more is printed
-pub push_more : (before items after bs : List ℕ) (i x y : ℕ) → after ≡ items ++ (x ∷ (y ∷ [])) →
-    x ≡ hex_digit (get_or bs i 0 / 16) → y ≡ hex_digit (get_or bs i 0 % 16) → i < length bs →
-    items ≡ before ++ hex (take i bs) → after ≡ before ++ hex (take (i + 1) bs)
-push_more before items after bs i x y e high low h inv =
-    e ∙ (λ t. inv t ++ (high t ∷ (low t ∷ []))) ∙ flat_map_more pair before (take i bs) (get_or bs i 0) ∙ ap (λ l. before ++ hex l) (sym (take_more bs i 0 h))

@@ -8,7 +8,7 @@ use crate::hex::push_hex;
 use keys::{Amount, Decimal, Sign, Text, Value};
 use std::alloc::{AllocError, Global};
 
-// Adds a value as a person would type it. The allocator comes as a parameter, as in the library; the one of `out` would do, but a public signature stays.
+// Adds a value as a person would type it. The allocator comes as a parameter, here and in what this calls, as in the library: the one of `out` would do, but a public signature stays.
 pub fn push_value(
     heap: Global,
     out: &mut Vec<u8>,

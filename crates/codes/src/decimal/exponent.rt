@@ -14,7 +14,7 @@ pub struct Exponent {
 }
 
 impl Exponent {
-    // This exponent; refused by 3.
+    // This exponent; refused by 3. A maker by name, like that of a decimal: it takes what may be refused.
     pub(crate) fn new(power: i32) -> Result<Exponent, KeyFault>
         ensures { answer_as (λ e. e.power) key_told result ≡ exponent_answer power }
     {

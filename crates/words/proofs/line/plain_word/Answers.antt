@@ -1,5 +1,5 @@
-use Rattle.std.proofs.Common.{◌≡◌, length, inl, sym, ◌∙◌, rules, arith}
-use Rattle.words.proofs.Fronts.{held, stopped, unheld, unplain}
+use Rattle.std.proofs.Common.{◌≡◌, length, sym, ◌∙◌, rules, arith}
+use Rattle.words.proofs.Fronts.{held, stopped, unplain}
 use Rattle.words.proofs.line.plain_word.Goals as goal
 use Rattle.words.proofs.line.plain_word.Goals.{then-is_empty-via-then-is_empty, then-is_empty-via-else-is_empty+then-contains}
 
@@ -12,8 +12,3 @@ returns-then-is_empty c =
       | then-is_empty-via-then-is_empty w ↦ let none : length p ≡ 0 = search rules in omega (arith, plain.0)
       | then-is_empty-via-else-is_empty+then-contains w ↦ held 34 p (sym w.contains.ensures.value ∙ w.if-contains.true) plain.2
     ])
-
-pub returns : goal.returns
-returns c =
-    let free = unheld 34 c.cut_at.result.0.now (sym c.contains.ensures.value ∙ c.if-contains.false) in
-    (inl (search rules, c.cut_at.ensures.before, free), c.cut_at.ensures.parts)
