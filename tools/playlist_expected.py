@@ -6,7 +6,10 @@ expression, decimals as exact fractions, keys by long division.
 
     tools/playlist_expected.py < commands            prints the answers
     tools/playlist_expected.py --arguments WORD..    the same for arguments
+
+Files are read in the folder it runs in; what is saved is only remembered.
 """
+import os
 import re
 import sys
 from fractions import Fraction
@@ -249,9 +252,70 @@ def number_of(word, limit):
     return int(word)
 
 
+def sums(page, data):
+    a = (page + sum(data)) % 65535
+    b = sum(place * byte for place, byte in enumerate(data, 1)) % 65535
+    return bytes(divmod(a, 256)) + bytes(divmod(b, 256))
+
+
+class Store:
+    """An area cut into pages, under some seals."""
+
+    def __init__(self, area, length, seals):
+        self.area = area
+        self.below = length
+        self.seals = seals
+        self.count = min(len(area) // length, 65535)
+        self.length = length
+        for _ in range(seals):
+            if self.length < 4:
+                self.length = self.count = 0
+            else:
+                self.length -= 4
+
+    def place(self, p):
+        if p >= self.count:
+            raise No(9, p)
+        return slice(p * self.below, (p + 1) * self.below)
+
+    def page(self, p):
+        bytes_ = bytes(self.area[self.place(p)])
+        for _ in range(self.seals):
+            bytes_, seal = bytes_[:-4], bytes_[-4:]
+            if seal != sums(p, bytes_):
+                raise No(10, p)
+        return bytes_
+
+    def put(self, p, bytes_):
+        place = self.place(p)
+        if len(bytes_) != self.length:
+            raise No(8)
+        for _ in range(self.seals):
+            bytes_ += sums(p, bytes_)
+        self.area[place] = bytes_
+
+
+class BadState(Exception):
+    """bad state"""
+
+
+class BadFile(Exception):
+    """bad file"""
+
+
+def path_of(word):
+    path = word[1:-1] if word[:1] == b'"' else word
+    try:
+        return path.decode("utf-8")
+    except UnicodeDecodeError:
+        raise BadFile
+
+
 class Session:
     def __init__(self):
         self.day = None
+        self.store = None
+        self.saved = {}
         self.failed = False
         self.out = []
 
@@ -268,6 +332,9 @@ class Session:
         except Bad:
             self.failed = True
             self.out.append("bad line")
+        except (BadState, BadFile) as bad:
+            self.failed = True
+            self.out.append(bad.__doc__)
         except No as no:
             self.failed = True
             self.out.append(" ".join(["no"] + [str(a) for a in no.args]))
@@ -296,7 +363,58 @@ class Session:
         elif words[0] == b"day" and len(words) == 2:
             self.day = (words[1], {})
         else:
+            self.store_command(words)
+
+    def store_command(self, words):
+        if words[0] == b"image" and len(words) == 4:
+            size = number_of(words[1], 100000000)
+            length = number_of(words[2], 999999999)
+            self.make(lambda: bytearray(size), length, number_of(words[3], 2))
+        elif words[0] == b"load" and len(words) == 4:
+            length = number_of(words[2], 999999999)
+            self.make(lambda: self.load(words[1]), length, number_of(words[3], 2))
+        elif words[0] == b"save" and len(words) == 2:
+            area = self.open_store().area
+            path = path_of(words[1])
+            folder = os.path.dirname(path)
+            if path == "" or "\0" in path or os.path.isdir(path) or (folder and not os.path.isdir(folder)):
+                raise BadFile
+            self.saved[path] = bytes(area)
+            self.out.append("ok %d" % len(area))
+        elif words[0] == b"page" and len(words) == 2:
+            p = number_of(words[1], 999999999)
+            self.out.append("ok " + self.open_store().page(p).hex().upper())
+        elif words[0] == b"put" and len(words) == 3:
+            p = number_of(words[1], 999999999)
+            bytes_ = pairs_of(words[2])
+            self.open_store().put(p, bytes_)
+            self.out.append("ok")
+        else:
             raise Bad
+
+    def open_store(self):
+        if self.store is None:
+            raise BadState
+        return self.store
+
+    def load(self, word):
+        path = path_of(word)
+        if path in self.saved:
+            return bytearray(self.saved[path])
+        try:
+            with open(path, "rb") as file:
+                area = bytearray(file.read())
+        except (OSError, ValueError):
+            raise BadFile
+        if len(area) > 100000000:
+            raise BadFile
+        return area
+
+    def make(self, area, length, seals):
+        if not 1 <= length <= 1024:
+            raise No(11)
+        self.store = Store(area(), length, seals)
+        self.out.append("ok %d %d" % (self.store.count, self.store.length))
 
     def row(self, line):
         words = words_of(line)

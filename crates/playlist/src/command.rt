@@ -1,11 +1,12 @@
 use crate::key::Key;
 use crate::row::Row;
+use crate::store_command::StoreCommand;
 use keys::{KeyFault, Plan};
 use std::alloc::Global;
 use words::{WordFault, read_number, read_plan, split};
 
 // The largest number that a word of 9 digits writes.
-const MAX_NUMBER: usize = 999_999_999;
+pub const MAX_NUMBER: usize = 999_999_999;
 
 // The most bytes of an output.
 const MAX_ROOM: usize = 1_000_000;
@@ -25,6 +26,8 @@ pub enum Command {
     },
     // begins a day, whose rows answer for a plan that is refused
     Day(Result<Plan, KeyFault>),
+    // works on a store
+    Store(StoreCommand),
 }
 
 // The command that a line gives.
@@ -46,6 +49,6 @@ pub fn read_command(heap: Global, line: &[u8]) -> Result<Command, WordFault> {
             Ok(Command::Column { key, column, room })
         }
         (b"day", [plan]) => Ok(Command::Day(read_plan(*plan))),
-        _ => Err(WordFault::Form),
+        (name, rest) => Ok(Command::Store(StoreCommand::read(heap, name, rest)?)),
     }
 }

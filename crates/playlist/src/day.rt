@@ -34,7 +34,7 @@ impl Day {
         let row = Row::read(heap, words.as_slice())?;
         let key = row.key(heap, &plan)?;
         let mut shown = Vec::new(heap);
-        row.push(heap, &mut shown)?;
+        row.push(&mut shown)?;
         self.rows.push(Aired { key, shown })?;
         Ok(())
     }

@@ -18,11 +18,11 @@ impl Key {
         Ok(Key { plan, bytes })
     }
 
-    // Adds its values, each behind a space.
-    pub fn push_values(&self, heap: Global, shown: &mut Vec<u8>) -> Result<(), WordFault> {
+    // Adds its values, each behind a space. Columns count from 1, and the number of each is what reading it takes.
+    pub fn push_values(&self, shown: &mut Vec<u8>) -> Result<(), WordFault> {
         check_key(&self.plan, self.bytes.as_slice())?;
         for column in 1..=self.plan.directions().len() {
-            self.push_value(heap, shown, column, MAX_KEY)?;
+            self.push_value(shown, column, MAX_KEY)?;
         }
         Ok(())
     }
@@ -30,11 +30,11 @@ impl Key {
     // Adds the value of one column behind a space, read with an output of `room` bytes.
     pub fn push_value(
         &self,
-        heap: Global,
         shown: &mut Vec<u8>,
         column: usize,
         room: usize,
     ) -> Result<(), WordFault> {
+        let heap = *shown.allocator();
         let mut text = vec![in heap; 0u8; room]?;
         let value = read_column(
             &self.plan,

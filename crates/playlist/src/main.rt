@@ -4,10 +4,15 @@
 mod command;
 mod day;
 mod failure;
+mod fault;
+mod file;
 mod input;
 mod key;
 mod row;
 mod session;
+mod store;
+mod store_command;
+mod workspace;
 
 use failure::Failure;
 use input::{argument, without_newline};
@@ -41,7 +46,7 @@ fn run_input(rt: &HostRuntime) -> Result<(), Failure> {
         if input.read_until(b'\n', &mut line)? == 0 {
             break;
         }
-        session.take_line(without_newline(line.as_slice()))?;
+        session.take_line(rt, without_newline(line.as_slice()))?;
         write_answers(rt, &mut session)?;
     }
     session.finish()?;
@@ -51,15 +56,15 @@ fn run_input(rt: &HostRuntime) -> Result<(), Failure> {
 // Runs the commands that the arguments give, and fails if any was refused or bad.
 fn run_arguments(rt: &HostRuntime, first: Vec<u8>) -> Result<(), Failure> {
     let mut session = Session::new(rt.alloc());
-    session.take_line(first.as_slice())?;
-    write_answers(rt, &mut session)?;
+    let mut next = Some(first);
     // Each argument is asked for by its number: the library's list of arguments takes text alone, and a line may be any bytes.
     for i in 2..usize::MAX {
-        let Some(line) = argument(rt, i)? else {
+        let Some(line) = next else {
             break;
         };
-        session.take_line(line.as_slice())?;
+        session.take_line(rt, line.as_slice())?;
         write_answers(rt, &mut session)?;
+        next = argument(rt, i)?;
     }
     session.finish()?;
     write_answers(rt, &mut session)?;

@@ -32,10 +32,10 @@ impl Row {
     }
 
     // Adds each value behind a space.
-    pub fn push(&self, heap: Global, out: &mut Vec<u8>) -> Result<(), AllocError> {
+    pub fn push(&self, out: &mut Vec<u8>) -> Result<(), AllocError> {
         for value in self.values.as_slice() {
             out.push(b' ')?;
-            push_value(heap, out, *value, self.texts.as_slice())?;
+            push_value(*out.allocator(), out, *value, self.texts.as_slice())?;
         }
         Ok(())
     }

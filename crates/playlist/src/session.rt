@@ -1,15 +1,17 @@
 use crate::command::{Command, read_command};
 use crate::day::Day;
 use crate::failure::Failure;
-use refusals::Refusal;
+use crate::fault::Fault;
+use crate::workspace::Workspace;
 use std::alloc::{AllocError, Global};
-use words::{WordFault, push_hex};
+use words::push_hex;
 
-// What lasts from line to line: the day that is being read, if any, what was answered and is not yet written, and whether any line was refused or bad.
+// What lasts from line to line: the day that is being read, if any, and the store, what was answered and is not yet written, and whether any line was refused or bad.
 #[derive(Drop)]
 pub struct Session {
     heap: Global,
     day: Option<Day>,
+    workspace: Workspace,
     answers: Vec<u8>,
     failed: bool,
 }
@@ -19,6 +21,7 @@ impl Session {
         Session {
             heap,
             day: None,
+            workspace: Workspace::new(),
             answers: Vec::new(heap),
             failed: false,
         }
@@ -37,10 +40,10 @@ impl Session {
     }
 
     // Takes a line: a row of the open day or its end, else a command. A line that is empty or begins with # is passed over.
-    pub fn take_line(&mut self, line: &[u8]) -> Result<(), Failure> {
+    pub fn take_line(&mut self, rt: &HostRuntime, line: &[u8]) -> Result<(), Failure> {
         match line {
             [] | [b'#', ..] => Ok(()),
-            _ => match self.try_line(line) {
+            _ => match self.try_line(rt, line) {
                 Ok(()) => Ok(()),
                 Err(fault) => self.refuse(fault),
             },
@@ -56,41 +59,51 @@ impl Session {
     }
 
     // Answers a line, or says why it cannot be answered.
-    fn try_line(&mut self, line: &[u8]) -> Result<(), WordFault> {
+    fn try_line(&mut self, rt: &HostRuntime, line: &[u8]) -> Result<(), Fault> {
         match self.day.take() {
             Some(day) => self.take_row(day, line),
-            None => self.run(read_command(self.heap, line)?),
+            None => {
+                let command = read_command(self.heap, line)?;
+                self.run(rt, command)
+            }
         }
     }
 
     // Takes a line of a day.
-    fn take_row(&mut self, mut day: Day, line: &[u8]) -> Result<(), WordFault> {
+    fn take_row(&mut self, mut day: Day, line: &[u8]) -> Result<(), Fault> {
         if let b"end" = line {
             return Ok(self.end_day(day)?);
         }
         let added = day.add(self.heap, line);
         self.day = Some(day);
-        added
+        Ok(added?)
     }
 
-    // Runs a command.
-    fn run(&mut self, command: Command) -> Result<(), WordFault> {
+    // Runs a command, and answers `ok` with what it shows.
+    fn run(&mut self, rt: &HostRuntime, command: Command) -> Result<(), Fault> {
         let mut shown = Vec::new(self.heap);
         match command {
             Command::Key(plan, row) => {
-                shown.push(b' ')?;
-                push_hex(&mut shown, row.key(self.heap, &plan)?.as_slice())?;
+                let key = row.key(self.heap, &plan)?;
+                return Ok(self.answer_key(key.as_slice())?);
             }
-            Command::Read(key) => key.push_values(self.heap, &mut shown)?,
-            Command::Column { key, column, room } => {
-                key.push_value(self.heap, &mut shown, column, room)?
-            }
+            Command::Read(key) => key.push_values(&mut shown)?,
+            Command::Column { key, column, room } => key.push_value(&mut shown, column, room)?,
             Command::Day(plan) => {
                 self.day = Some(Day::new(self.heap, plan));
                 return Ok(());
             }
+            Command::Store(command) => self.workspace.run(rt, command, &mut shown)?,
         }
         self.answer(shown.as_slice())?;
+        Ok(())
+    }
+
+    // `ok` with a key.
+    fn answer_key(&mut self, key: &[u8]) -> Result<(), AllocError> {
+        self.answers.extend_from_slice(b"ok ")?;
+        push_hex(&mut self.answers, key)?;
+        self.answers.push(b'\n')?;
         Ok(())
     }
 
@@ -109,17 +122,18 @@ impl Session {
         self.answers.extend_from_slice(text.as_bytes())
     }
 
-    // `bad line`, or `no` with the refusal's number and values.
-    fn refuse(&mut self, fault: WordFault) -> Result<(), Failure> {
+    // Says why a line is not answered by `ok`: want of memory is no answer, and ends the program.
+    fn refuse(&mut self, fault: Fault) -> Result<(), Failure> {
         self.failed = true;
         match fault {
-            WordFault::Memory => return Err(Failure::Memory),
-            WordFault::Form => self.answers.extend_from_slice(b"bad line\n")?,
-            WordFault::Key(fault) => {
-                let refused = fault.refused();
+            Fault::Line => self.answers.extend_from_slice(b"bad line\n")?,
+            Fault::State => self.answers.extend_from_slice(b"bad state\n")?,
+            Fault::File => self.answers.extend_from_slice(b"bad file\n")?,
+            Fault::Refused(refused) => {
                 let text = format!(in self.heap; "no {refused}\n")?;
                 self.answers.extend_from_slice(text.as_bytes())?;
             }
+            Fault::Memory => return Err(Failure::Memory),
         }
         Ok(())
     }
