@@ -1,0 +1,4 @@
+pub mod Fronts
+pub mod Cuts
+pub mod Looks
+pub mod HalfWay

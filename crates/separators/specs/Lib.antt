@@ -1,0 +1,2 @@
+pub mod Separators
+pub mod Halves
