@@ -1,0 +1,9 @@
+pub mod Packing
+pub mod Directions
+pub mod Headers
+pub mod Fields
+pub mod Refusals
+pub mod Writing
+pub mod Reading
+pub mod Editing
+pub mod ReadsBack
