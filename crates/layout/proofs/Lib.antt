@@ -1,0 +1,9 @@
+pub mod Turns
+pub mod Zeros
+pub mod Edits
+pub mod Leaves
+pub mod Finds
+pub mod Unique
+pub mod Rises
+pub mod Wrongs
+pub mod Frees

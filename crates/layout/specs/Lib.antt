@@ -1,0 +1,6 @@
+pub mod Pages
+pub mod Free
+pub mod Leaf
+pub mod Faults
+pub mod Places
+pub mod Checks
