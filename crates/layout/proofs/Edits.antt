@@ -89,34 +89,52 @@ module _ {A : Type 0} (f : A → List ℕ) where
       ∙ ap (λ m. (head kind m link ++ fa) ++ (f x ++ (fb ++ zeros len (flat_map f (a ++ x ∷ b))))) q
       ∙ sym (split_three len (head kind (length (a ++ x ∷ b)) link) a b x)
 
-  pub removed : (page closed new : List ℕ) (kind link : ℕ) (a b : List A) (x : A) (at from end : ℕ) →
-      page ≡ page_bytes (length page) (head kind (length (a ++ x ∷ b)) link) (flat_map f (a ++ x ∷ b)) → length (a ++ x ∷ b) < 16384 →
-      at ≡ 4 + length (flat_map f a) → from ≡ at + length (f x) → end ≡ from + length (flat_map f b) →
-      closed ≡ take at page ++ (take (end - from) (drop from page) ++ (replicate (from - at) 0 ++ drop end page)) → new ≡ renumbered closed (length (a ++ x ∷ b) - 1) →
+  -- the cells in the middle, and those behind them
+  split_list : (len : ℕ) (h : List ℕ) (a m b : List A) →
+      page_bytes len h (flat_map f (a ++ (m ++ b))) ≡ (h ++ flat_map f a) ++ (flat_map f m ++ (flat_map f b ++ zeros len (flat_map f (a ++ (m ++ b)))))
+  split_list len h a m b =
+      let z = zeros len (flat_map f (a ++ (m ++ b))) in
+      split_two len h a (m ++ b) ∙ ap (λ l. (h ++ flat_map f a) ++ (l ++ z)) (flat_map-append f m b) ∙ ap (λ l. (h ++ flat_map f a) ++ l) (append_assoc (flat_map f m) (flat_map f b) z)
+
+  pub more_list : (a m b : List A) → length (flat_map f (a ++ (m ++ b))) ≡ length (flat_map f m) + length (flat_map f (a ++ b))
+  more_list a m b =
+      omega (
+        arith,
+        ap length (flat_map-append f a (m ++ b)),
+        ap length (flat_map-append f m b),
+        ap length (flat_map-append f a b),
+        length-append (flat_map f a) (flat_map f (m ++ b)),
+        length-append (flat_map f m) (flat_map f b),
+        length-append (flat_map f a) (flat_map f b),
+      )
+
+  pub removed : (page closed new : List ℕ) (kind link : ℕ) (a m b : List A) (at from end : ℕ) →
+      page ≡ page_bytes (length page) (head kind (length (a ++ (m ++ b))) link) (flat_map f (a ++ (m ++ b))) → length (a ++ (m ++ b)) < 16384 →
+      at ≡ 4 + length (flat_map f a) → from ≡ at + length (flat_map f m) → end ≡ from + length (flat_map f b) →
+      closed ≡ take at page ++ (take (end - from) (drop from page) ++ (replicate (from - at) 0 ++ drop end page)) → new ≡ renumbered closed (length (a ++ b)) →
       new ≡ page_bytes (length page) (head kind (length (a ++ b)) link) (flat_map f (a ++ b))
-  removed page closed new kind link a b x at from end e few qa qf qe o r =
+  removed page closed new kind link a m b at from end e few qa qf qe o r =
       let len = length page in
-      let n = length (a ++ x ∷ b) in
+      let n = length (a ++ (m ++ b)) in
       let fa = flat_map f a in
+      let fm = flat_map f m in
       let fb = flat_map f b in
       let p = head kind n link ++ fa in
-      let z = zeros len (flat_map f (a ++ x ∷ b)) in
+      let z = zeros len (flat_map f (a ++ (m ++ b))) in
       let lp : length p ≡ at = omega (arith, length-append (head kind n link) fa) in
-      let e2 : page ≡ p ++ (f x ++ (fb ++ z)) = e ∙ split_three len (head kind n link) a b x in
-      let front : take at page ≡ p = ap (take at) e2 ∙ take_at p (f x ++ (fb ++ z)) at lp in
-      let at_cell : drop at page ≡ f x ++ (fb ++ z) = ap (drop at) e2 ∙ drop_at p (f x ++ (fb ++ z)) at lp in
-      let behind : drop from page ≡ fb ++ z = ap (λ m. drop m page) qf ∙ sym (drop-drop (length (f x)) at page) ∙ ap (drop (length (f x))) at_cell ∙ drop_at (f x) (fb ++ z) (length (f x)) refl in
+      let e2 : page ≡ p ++ (fm ++ (fb ++ z)) = e ∙ split_list len (head kind n link) a m b in
+      let front : take at page ≡ p = ap (take at) e2 ∙ take_at p (fm ++ (fb ++ z)) at lp in
+      let middle : drop at page ≡ fm ++ (fb ++ z) = ap (drop at) e2 ∙ drop_at p (fm ++ (fb ++ z)) at lp in
+      let behind : drop from page ≡ fb ++ z = ap (λ k. drop k page) qf ∙ sym (drop-drop (length fm) at page) ∙ ap (drop (length fm)) middle ∙ drop_at fm (fb ++ z) (length fm) refl in
       let part : take (end - from) (drop from page) ≡ fb = ap (take (end - from)) behind ∙ take_at fb z (end - from) (omega arith) in
-      let rest : drop end page ≡ z = ap (λ m. drop m page) qe ∙ sym (drop-drop (length fb) from page) ∙ ap (drop (length fb)) behind ∙ drop_at fb z (length fb) refl in
-      let w : from - at ≡ length (f x) = omega arith in
-      let fits = page_fits page kind n link (flat_map f (a ++ x ∷ b)) e in
-      let more : replicate (from - at) 0 ++ z ≡ zeros len (flat_map f (a ++ b)) = zeros_more len (from - at) (flat_map f (a ++ b)) (flat_map f (a ++ x ∷ b)) (omega (arith, one_more a b x)) fits in
+      let rest : drop end page ≡ z = ap (λ k. drop k page) qe ∙ sym (drop-drop (length fb) from page) ∙ ap (drop (length fb)) behind ∙ drop_at fb z (length fb) refl in
+      let w : from - at ≡ length fm = omega arith in
+      let fits = page_fits page kind n link (flat_map f (a ++ (m ++ b))) e in
+      let more : replicate (from - at) 0 ++ z ≡ zeros len (flat_map f (a ++ b)) = zeros_more len (from - at) (flat_map f (a ++ b)) (flat_map f (a ++ (m ++ b))) (omega (arith, more_list a m b)) fits in
       let o2 : closed ≡ p ++ (fb ++ zeros len (flat_map f (a ++ b))) =
       o ∙ ap (λ l. l ++ (take (end - from) (drop from page) ++ (replicate (from - at) 0 ++ drop end page))) front
       ∙ ap (λ l. p ++ (l ++ (replicate (from - at) 0 ++ drop end page))) part
       ∙ ap (λ l. p ++ (fb ++ (replicate (from - at) 0 ++ l))) rest
       ∙ ap (λ l. p ++ (fb ++ l)) more in
-      let q : n - 1 ≡ length (a ++ b) = omega (arith, length-append a b, length-append a (x ∷ b)) in
-      r ∙ ap (λ l. renumbered l (n - 1)) o2 ∙ renumber kind n (n - 1) link fa (fb ++ zeros len (flat_map f (a ++ b))) few
-      ∙ ap (λ m. (head kind m link ++ fa) ++ (fb ++ zeros len (flat_map f (a ++ b)))) q
+      r ∙ ap (λ l. renumbered l (length (a ++ b))) o2 ∙ renumber kind n (length (a ++ b)) link fa (fb ++ zeros len (flat_map f (a ++ b))) few
       ∙ sym (split_two len (head kind (length (a ++ b)) link) a b)

@@ -3,9 +3,9 @@ use Rattle.std.proofs.Common.{◌≡◌, ℕ, ◌+◌, ◌-◌, ◌*◌, ◌/◌
 use Rattle.std.specs.List.{flat_map}
 use Rattle.std.proofs.lemmas.List.{drop_at, take_at}
 use Rattle.std.proofs.lemmas.List.Elements.{All-head, All-tail, All-append, All-drop, All-take, All-cons}
-use Rattle.layout.specs.Pages.{head, zeros}
+use Rattle.layout.specs.Pages.{head, zeros, page_bytes}
 use Rattle.layout.specs.Leaf.{cell, Leaf, Sized, leaf_bytes, LeafHead}
-use Rattle.layout.proofs.Edits.{page_fits, length_page, split_two, one_more, renumbered, inserted, removed}
+use Rattle.layout.proofs.Edits.{page_fits, length_page, split_two, more_list, renumbered, inserted, removed}
 
 pub joined_long : (ks : List (List ℕ)) → All Sized ks → 2 * length ks ≤ length (flat_map cell ks)
 joined_long [] s = omega arith
@@ -64,17 +64,30 @@ module _ (page changed new : List ℕ) (a b : List (List ℕ)) (key : List ℕ) 
         short = omega (arith, lf.short);
       }
 
-  pub leaf_removed : (at from end number : ℕ) → Leaf page (a ++ key ∷ b) → number ≡ length (a ++ key ∷ b) → at ≡ 4 + length (flat_map cell a) → from ≡ at + (1 + length key) →
-      end ≡ from + length (flat_map cell b) → changed ≡ take at page ++ (take (end - from) (drop from page) ++ (replicate (from - at) 0 ++ drop end page)) →
-      new ≡ renumbered changed (number - 1) → Leaf new (a ++ b)
-  leaf_removed at from end number lf qn qa qf qe o r =
-      let few = leaf_few page (a ++ key ∷ b) lf in
-      let fits = leaf_fits page (a ++ key ∷ b) lf in
-      let e = removed cell page changed new 1 0 a b key at from end lf.bytes (omega arith) qa (qf ∙ omega arith) qe o (r ∙ ap (λ m. renumbered changed (m - 1)) qn) in
-      let l : length new ≡ length page = ap length e ∙ length_page (length page) 1 (length (a ++ b)) 0 (flat_map cell (a ++ b)) (omega (arith, one_more cell a b key)) in
-      let sb = sized_behind a (key ∷ b) lf.sized in
+module _ (page closed new : List ℕ) (a m b : List (List ℕ)) where
+  pub leaf_removed : (at from end : ℕ) → Leaf page (a ++ (m ++ b)) → at ≡ 4 + length (flat_map cell a) → from ≡ at + length (flat_map cell m) → end ≡ from + length (flat_map cell b) →
+      closed ≡ take at page ++ (take (end - from) (drop from page) ++ (replicate (from - at) 0 ++ drop end page)) → new ≡ renumbered closed (length (a ++ b)) → Leaf new (a ++ b)
+  leaf_removed at from end lf qa qf qe o r =
+      let few = leaf_few page (a ++ (m ++ b)) lf in
+      let fits = leaf_fits page (a ++ (m ++ b)) lf in
+      let e = removed cell page closed new 1 0 a m b at from end lf.bytes (omega arith) qa qf qe o r in
+      let l : length new ≡ length page = ap length e ∙ length_page (length page) 1 (length (a ++ b)) 0 (flat_map cell (a ++ b)) (omega (arith, more_list cell a m b)) in
+      let sb = sized_behind m b (sized_behind a (m ++ b) lf.sized) in
       record {
         bytes = e ∙ ap (λ n. leaf_bytes n (a ++ b)) (sym l);
-        sized = All-append Sized a b (sized_before a (key ∷ b) lf.sized) (All-tail Sized key b sb);
+        sized = All-append Sized a b (sized_before a (m ++ b) lf.sized) sb;
         short = omega (arith, lf.short);
       }
+
+-- a page that was written with the cells of these keys
+pub leaf_written : (old new cells : List ℕ) (number : ℕ) (ks : List (List ℕ)) → length old ≤ 1024 → All Sized ks → number ≡ length ks → cells ≡ flat_map cell ks → 4 + length (flat_map cell ks) ≤ length old →
+    new ≡ page_bytes (length old) (head 1 number 0) cells → Leaf new ks
+leaf_written old new cells number ks short sized n q room e =
+    let d : new ≡ leaf_bytes (length old) ks = e ∙ ap (λ m. page_bytes (length old) (head 1 m 0) cells) n ∙ ap (λ (l : List ℕ). page_bytes (length old) (head 1 (length ks) 0) l) q in
+    let l : length new ≡ length old = ap length d ∙ length_page (length old) 1 (length ks) 0 (flat_map cell ks) room in
+    record { bytes = d ∙ ap (λ m. leaf_bytes m ks) (sym l); sized = sized; short = omega (arith, short) }
+
+-- the bytes from behind some keys of a leaf to the end of the others' cells
+pub leaf_part : (page : List ℕ) (a b : List (List ℕ)) (at end : ℕ) → Leaf page (a ++ b) → at ≡ 4 + length (flat_map cell a) → end ≡ at + length (flat_map cell b) →
+    take (end - at) (drop at page) ≡ flat_map cell b
+leaf_part page a b at end lf qa qe = ap (take (end - at)) (leaf_behind page a b at lf qa) ∙ take_at (flat_map cell b) (zeros (length page) (flat_map cell (a ++ b))) (end - at) (omega arith)

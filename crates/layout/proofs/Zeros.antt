@@ -1,6 +1,6 @@
 -- Bytes 00.
-use Rattle.std.proofs.Common.{◌≡◌, ℕ, ◌+◌, ◌-◌, ◌<◌, ◌≤◌, ◌*◌, ◌/◌, ◌%◌, List, [], ◌∷◌, ◌++◌, length, get_or, drop, replicate, Some, None, Option, sym, refl, ap, ◌∙◌, arith}
-use Rattle.std.proofs.lemmas.List.{length-replicate, get_or-replicate, same_lists, replicate-append-replicate, length-drop}
+use Rattle.std.proofs.Common.{slice_set, ◌≡◌, ℕ, ◌+◌, ◌-◌, ◌<◌, ◌≤◌, ◌*◌, ◌/◌, ◌%◌, List, [], ◌∷◌, ◌++◌, length, get_or, drop, replicate, Some, None, Option, sym, refl, ap, ◌∙◌, arith}
+use Rattle.std.proofs.lemmas.List.{length-replicate, get_or-replicate, same_lists, length-drop}
 use Rattle.std.specs.List.{AllWithin, HoldsAt}
 use Rattle.std.specs.Option.{MatchOption}
 use Rattle.layout.specs.Pages.{head, zeros, FirstNonzero}
@@ -13,12 +13,19 @@ pub nonzero_first : (xs : List ℕ) (r : Option ℕ) → MatchOption r (AllWithi
 nonzero_first xs None h = all_zero xs h
 nonzero_first xs (Some i) h = (h.0, λ k l. h.2 k 0 (omega arith) l, h.1 0)
 
--- a page of zeros
-pub blank : (len : ℕ) → 4 ≤ len → replicate len 0 ≡ 0 ∷ 0 ∷ 0 ∷ 0 ∷ zeros len []
+-- the zeros behind cells
+pub zeros_behind : (len n : ℕ) (cells : List ℕ) → n ≡ len - 4 - length cells → replicate n 0 ≡ zeros len cells
 unfolding zeros
-blank len h =
-    let q : len ≡ 4 + (len - 4) = omega arith in
-    ap (λ n. replicate n 0) q ∙ sym (replicate-append-replicate 4 (len - 4) 0)
+zeros_behind len n cells q = ap (λ m. replicate m 0) (omega arith)
+
+-- four bytes, all of them set
+pub four_set : (xs : List ℕ) (a b c d : ℕ) → length xs ≡ 4 → slice_set (slice_set (slice_set (slice_set xs 0 a) 1 b) 2 c) 3 d ≡ a ∷ b ∷ c ∷ d ∷ []
+four_set [] a b c d h = absurd (omega arith)
+four_set (x ∷ []) a b c d h = absurd (omega arith)
+four_set (x ∷ y ∷ []) a b c d h = absurd (omega arith)
+four_set (x ∷ y ∷ z ∷ []) a b c d h = absurd (omega arith)
+four_set (x ∷ y ∷ z ∷ w ∷ []) a b c d h = refl
+four_set (x ∷ y ∷ z ∷ w ∷ v ∷ r) a b c d h = absurd (omega arith)
 
 -- the four bytes of the head
 pub four : (page : List ℕ) → 4 ≤ length page → page ≡ get_or page 0 0 ∷ get_or page 1 0 ∷ get_or page 2 0 ∷ get_or page 3 0 ∷ drop 4 page

@@ -3,7 +3,7 @@ ghost use Rattle.layout.specs.Free.{free_bytes, NoFree};
 
 use crate::bytes::nonzero;
 use crate::fault::PageFault;
-use crate::head::write_bare;
+use crate::head::write_page;
 
 // Makes the page a free one, with the next free page or 0 as its link. Bytes that have no room for a head stay as they are.
 pub fn write_free(page: &mut [u8], next: u16)
@@ -11,7 +11,7 @@ pub fn write_free(page: &mut [u8], next: u16)
     ensures short { length page.old < 4 → page.new ≡ page.old }
 {
     if page.len() >= 4 {
-        write_bare(page, 3, next);
+        write_page(page, 3, 0, next, &[]);
     }
 }
 

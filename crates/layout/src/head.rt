@@ -24,15 +24,20 @@ pub(crate) fn set_number(page: &mut [u8], number: usize)
     page[1] = (number % 256) as u8;
 }
 
-// Makes the page one of this kind without cells.
-pub(crate) fn write_bare(page: &mut [u8], kind: u8, link: u16)
-    requires long { 4 ≤ length page.old }
-    requires low { kind < 4 }
-    ensures { page.new ≡ page_bytes (length page.old) (head kind 0 link) [] }
+// Makes the page one of this kind with these cells.
+pub(crate) fn write_page(page: &mut [u8], kind: u8, number: usize, link: u16, cells: &[u8])
+    requires room { 4 + length cells.now ≤ length page.old }
+    requires known { kind < 4 }
+    requires low { number < 16384 }
+    ensures { page.new ≡ page_bytes (length page.old) (head kind number link) cells.now }
 {
+    let (first, rest) = page.split_at_mut(4);
     let link = link.to_be_bytes();
-    page.fill(0);
-    page[0] = kind * 64;
-    page[2] = link[0];
-    page[3] = link[1];
+    first[0] = kind * 64 + (number / 256) as u8;
+    first[1] = (number % 256) as u8;
+    first[2] = link[0];
+    first[3] = link[1];
+    let (full, free) = rest.split_at_mut(cells.len());
+    full.copy_from_slice(cells);
+    free.fill(0);
 }

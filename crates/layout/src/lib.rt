@@ -15,5 +15,5 @@ pub use checking::check_leaf;
 pub use fault::PageFault;
 pub use finding::find;
 pub use free::{read_free, write_free};
-pub use leaf::{insert, remove, write_empty_leaf};
+pub use leaf::{insert, remove, split, write_empty_leaf};
 pub use place::Place;

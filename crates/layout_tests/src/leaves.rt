@@ -1,4 +1,4 @@
-use layout::{PageFault, Place, check_leaf, find, insert, remove, write_empty_leaf};
+use layout::{PageFault, Place, check_leaf, find, insert, remove, split, write_empty_leaf};
 use std::process::Abort;
 use std::test::Fail;
 
@@ -127,5 +127,22 @@ fn whole_leaves(rt: HostRuntime) -> Result<(), Fail> {
     assert_eq!(rt; checked(&rt, 9, 3), Err(PageFault::Damaged(9)));
     assert_eq!(rt; checked(&rt, 10, b'C'), Err(PageFault::Damaged(9)));
     assert_eq!(rt; checked(&rt, 11, 1), Err(PageFault::Damaged(11)));
+    Ok(())
+}
+
+#[test]
+fn a_leaf_parted(rt: HostRuntime) -> Result<(), Fail> {
+    let Ok(place) = find(&THREE, b"C") else {
+        panic!(rt; "no place");
+    };
+    let mut page = THREE;
+    let mut short = [7u8; 8];
+    assert_eq!(rt; split(&mut page, &mut short, place), Err(PageFault::Full));
+    assert_eq!(rt; page, THREE);
+    assert_eq!(rt; short, [7u8; 8]);
+    let mut right = [7u8; 12];
+    assert_eq!(rt; split(&mut page, &mut right, place), Ok(()));
+    assert_eq!(rt; page, [0x40, 1, 0, 0, 1, b'B', 0, 0, 0, 0, 0, 0]);
+    assert_eq!(rt; right, WITHOUT_B);
     Ok(())
 }

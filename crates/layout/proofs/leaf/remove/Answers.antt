@@ -1,4 +1,4 @@
-use Rattle.std.proofs.Common.{inl, inr, ◌≡◌, ◌+◌, ◌-◌, ◌++◌, ◌∷◌, length, refl, arith, length-append}
+use Rattle.std.proofs.Common.{inl, inr, ◌≡◌, ◌+◌, ◌-◌, ◌++◌, ◌∷◌, [], ap, ◌∙◌, length, refl, arith, length-append}
 use Rattle.std.specs.List.{flat_map}
 use Rattle.std.proofs.lemmas.List.Elements.{All-tail}
 use Rattle.layout.specs.Pages.{zeros}
@@ -8,6 +8,7 @@ use Rattle.layout.specs.declared.fault.PageFault.TheVariants.{Damaged}
 use Rattle.layout.specs.Leaf.{cell, Sized}
 use Rattle.layout.proofs.Leaves.{leaf_head, leaf_behind, numbered, sized_behind, leaf_removed}
 use Rattle.layout.proofs.Turns.{turn}
+use Rattle.layout.proofs.Edits.{renumbered}
 use Rattle.layout.proofs.leaf.remove.Goals as goal
 
 pub returns-in_err-number-clause-removed : goal.returns-in_err-number-clause-removed
@@ -43,9 +44,10 @@ returns-clause-removed c = λ a b key lf p.
     let told = (c.in_ok-end.ensures).cells b z (t.next c.in_ok-len.len c.in_ok-len.ensures) (All-tail Sized key b sized) count in
     let from = c.args.place.at + (1 + c.in_ok-len.len) in
     let q : c.in_ok-end.end ≡ from + length (flat_map cell b) = cc in
-    let l = t.len c.in_ok-len.len c.in_ok-len.ensures in (
+    let l = t.len c.in_ok-len.len c.in_ok-len.ensures in
+    let count2 : c.in_ok-number.number - 1 ≡ length (a ++ b) = omega (arith, n, length-append a (key ∷ b), length-append a b) in (
       refl,
-      leaf_removed page c.close.new.page c.set_number.new.page a b key c.args.place.at from c.in_ok-end.end c.in_ok-number.number lf n p.1 (omega arith) q c.close.ensures c.set_number.ensures,
+      leaf_removed page c.close.new.page c.set_number.new.page a (key ∷ []) b c.args.place.at from c.in_ok-end.end lf p.1 (omega (arith, l, length-append (cell key) [])) q c.close.ensures (c.set_number.ensures ∙ ap (renumbered c.close.new.page) count2),
     )
 
 pub returns-in_err-number-clause-faults : goal.returns-in_err-number-clause-faults
