@@ -7,3 +7,4 @@ pub mod Unique
 pub mod Rises
 pub mod Wrongs
 pub mod Frees
+pub mod Halfway

@@ -8,6 +8,10 @@ use Rattle.layout.specs.Pages.{head, page_bytes}
 abbrev pub cell : List ℕ → List ℕ
 cell key = length key ∷ key
 
+-- the bytes of a key's cell
+abbrev pub cell_len : List ℕ → ℕ
+cell_len key = 1 + length key
+
 -- a leaf of this length with these keys
 abbrev pub leaf_bytes : ℕ → List (List ℕ) → List ℕ
 leaf_bytes len keys = page_bytes len (head 1 (length keys) 0) (flat_map cell keys)

@@ -4,3 +4,4 @@ pub mod Leaf
 pub mod Faults
 pub mod Places
 pub mod Checks
+pub mod Cuts

@@ -1,4 +1,6 @@
-use layout::{PageFault, Place, check_leaf, find, insert, remove, split, write_empty_leaf};
+use layout::{
+    Cut, PageFault, Place, check_leaf, find, half_way, insert, remove, split, write_empty_leaf,
+};
 use std::process::Abort;
 use std::test::Fail;
 
@@ -144,5 +146,26 @@ fn a_leaf_parted(rt: HostRuntime) -> Result<(), Fail> {
     assert_eq!(rt; split(&mut page, &mut right, place), Ok(()));
     assert_eq!(rt; page, [0x40, 1, 0, 0, 1, b'B', 0, 0, 0, 0, 0, 0]);
     assert_eq!(rt; right, WITHOUT_B);
+    Ok(())
+}
+
+// Where the leaf of three keys is parted, of cells of 2, 3 and 2 bytes, with one more of a key that it does not have.
+fn cut(key: &[u8]) -> Result<Cut, PageFault> {
+    let place = find(&THREE, key)?;
+    half_way(&THREE, place, key)
+}
+
+fn at_cut(index: usize, at: usize, stays: bool) -> Result<Cut, PageFault> {
+    Ok(Cut { index, at, stays })
+}
+
+#[test]
+fn where_a_leaf_is_parted(rt: HostRuntime) -> Result<(), Fail> {
+    assert_eq!(rt; cut(b"A"), at_cut(2, 9, true));
+    assert_eq!(rt; cut(b"C"), at_cut(2, 9, true));
+    assert_eq!(rt; cut(b"CF"), at_cut(2, 9, false));
+    assert_eq!(rt; cut(b"E"), at_cut(2, 9, false));
+    assert_eq!(rt; cut(b"BAAAAA"), at_cut(1, 6, true));
+    assert_eq!(rt; cut(b"DAAAAAAAAA"), at_cut(3, 11, true));
     Ok(())
 }
