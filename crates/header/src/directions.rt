@@ -9,8 +9,8 @@ pub(crate) fn bits_of(directions: &[Direction]) -> u8
     ensures { result ≡ direction_bits 8 directions.now }
 {
     let mut bits = 0;
-    for i in 0..directions.len() {
-        if let Direction::Descending = directions[i] {
+    for (i, direction) in directions.iter().enumerate() {
+        if let Direction::Descending = direction {
             bits += 1 << (7 - i);
         }
     }

@@ -27,7 +27,7 @@ loop-i-preserved c =
     let s : 1 * 2 ^ (7 - i) % 256 ≡ 2 ^ (7 - i) = one_shl (7 - i) 8 (omega arith) in
     let f = one_further ds i Ascending c.loop-i-test.true c.requires in
     let n = c.loop-i.invariant in
-    elim c.match-directions-i.branch [
+    elim c.match-direction.branch [
       | in-Descending w ↦ let e : direction_bit (slice_index_or ds i Ascending) * p ≡ 1 * p = ap (λ z. direction_bit z * p) w.in-Descending.is in omega (arith, s, e, f, n, w.bits-is)
       | in_default w ↦ let e : direction_bit (slice_index_or ds i Ascending) * p ≡ 0 * p = ap (λ z. direction_bit z * p) w.in_default.is in omega (arith, e, f, n, w.bits-is)
     ]
