@@ -8,6 +8,9 @@ use Rattle.std.proofs.Math.Seq.{take-append-add, get_or-append_seam}
 use Rattle.separators.specs.declared.half.Half.{Half}
 use Rattle.separators.specs.Halves.{Counted, Overfull}
 use Rattle.layout.specs.declared.cut.Cut.{Cut}
+use Rattle.layout.specs.declared.fault.PageFault.{PageFault}
+use Rattle.layout.specs.declared.fault.PageFault.TheVariants.{Damaged, Full, KeyLength}
+use Rattle.layout.specs.Faults.{Stops}
 use Rattle.layout.specs.Pages.{zeros}
 use Rattle.layout.specs.Leaf.{cell, cell_len, Leaf, Sized, CellAt}
 use Rattle.layout.specs.Cuts.{Parted, stays, goes}
@@ -172,3 +175,10 @@ module _ (a b : List (List ℕ)) (key : List ℕ) where
 pub side : (turn n : ℕ) → (turn ≡ n → ⊥) → (turn ≡ n) ⊎ ((turn < n) ⊎ (n < turn)) → (turn < n) ⊎ (n < turn)
 side turn n other (inl e) = absurd (other e)
 side turn n other (inr s) = s
+
+-- what stops the reading of cells lies in the page
+pub inside : (page : List ℕ) (fault : PageFault) → Stops page fault → (at : ℕ) × (at ≤ length page) × (fault ≡ Damaged at)
+inside page (Damaged at) (inl s) = (at, omega (arith, s.0), refl)
+inside page (Damaged at) (inr s) = (at, s.0, refl)
+inside page Full s = absurd s
+inside page KeyLength s = absurd s

@@ -1,4 +1,4 @@
-ghost use Rattle.std.specs.Prelude.{◌≡◌, ℕ, ◌+◌, ◌-◌, ◌<◌, ◌≤◌, ◌∷◌, ◌++◌, List, length, map, nat_le, IfOk};
+ghost use Rattle.std.specs.Prelude.{◌≡◌, ℕ, ◌+◌, ◌-◌, ◌<◌, ◌≤◌, ◌∷◌, ◌++◌, List, length, map, nat_le, IfErr, IfOk};
 ghost use Rattle.std.specs.List.{flat_map};
 ghost use Rattle.std.specs.Result.{IsOkAnd};
 ghost use Rattle.separators.specs.Halves.{Halves, split_point};
@@ -17,6 +17,7 @@ use separators::Half;
 pub fn half_way(page: &[u8], place: Place, key: &[u8]) -> Result<Cut, PageFault>
     ensures parted { (before behind : List (List ℕ)) → Leaf page.now (before ++ behind) → Behind before place → IsOkAnd result (λ cut. Parted before behind (split_point (map cell_len (before ++ key.now ∷ behind))) cut) }
     ensures fits { IfOk result (λ _. (before behind : List (List ℕ)) → Leaf page.now (before ++ behind) → Sized key.now → 367 ≤ length page.now → length page.now < 4 + length (flat_map cell (before ++ key.now ∷ behind)) → Halves (length page.now - 4) (map cell_len (before ++ key.now ∷ behind)) (split_point (map cell_len (before ++ key.now ∷ behind)))) }
+    ensures faults { IfErr result (λ fault. (at : ℕ) × (at ≤ length page.now) × (fault ≡ PageFault.Damaged at)) }
 {
     let number = leaf_number(page)?;
     let end = cells_end(page, 4, number)?;

@@ -1,14 +1,16 @@
-use Rattle.std.proofs.Common.{subst, ◌≡◌, ◌+◌, ◌-◌, ◌<◌, ◌++◌, ◌∷◌, [], suc, length, take, drop, get_or, refl, sym, ◌∙◌, arith}
+use Rattle.std.proofs.Common.{ℕ, ◌≤◌, subst, ◌≡◌, ◌+◌, ◌-◌, ◌<◌, ◌++◌, ◌∷◌, [], suc, length, take, drop, get_or, refl, sym, ◌∙◌, arith}
 use Rattle.std.specs.List.{flat_map}
 use Rattle.std.proofs.lemmas.Bool.{cases_order, le-leb, lt-leb}
 use Rattle.std.proofs.lemmas.List.{length-take-le}
 use Rattle.layout.specs.declared.cut.Cut.{Cut}
+use Rattle.std.proofs.lemmas.Result.{err_from_is_err_and}
+use Rattle.layout.specs.declared.fault.PageFault.TheVariants.{Damaged}
 use Rattle.separators.specs.Halves.{Counted, split_point}
 use Rattle.layout.specs.Pages.{zeros}
 use Rattle.layout.specs.Leaf.{cell}
 use Rattle.layout.proofs.Leaves.{leaf_head, leaf_cells, numbered}
 use Rattle.layout.proofs.Turns.{turn}
-use Rattle.layout.proofs.Halfway.{overfull, sizes, sizes_sum, sizes_many, parted_at, size_new, own_few, next_new, this_size, next_own, own_half, new_half, never, side}
+use Rattle.layout.proofs.Halfway.{inside, overfull, sizes, sizes_sum, sizes_many, parted_at, size_new, own_few, next_new, this_size, next_own, own_half, new_half, never, side}
 use Rattle.layout.proofs.halving.half_way.Goals as goal
 use Rattle.layout.proofs.halving.half_way.Goals.{then-turn-place+in_ok-size, else-turn-place}
 
@@ -123,3 +125,20 @@ returns-clause-parted c = λ a b lf p.
 
 pub returns-then-add-clause-fits : goal.returns-then-add-clause-fits
 returns-then-add-clause-fits c = λ a b lf s big much. c.new-half.ensures.halves (length c.args.page.now - 4) 121 (sizes a b c.args.key.now) (overfull a b c.args.key.now c.args.page.now lf s big much)
+
+pub returns-in_err-number-clause-faults : goal.returns-in_err-number-clause-faults
+returns-in_err-number-clause-faults c =
+    let p = err_from_is_err_and c.from_residual.result c.from_residual.ensures.1 in
+    let w : (at : ℕ) × (at ≤ length c.args.page.now) × (Damaged 0 ≡ Damaged at) = (0, omega arith, refl) in
+    rw (p.1, p.2, (c.in_err-number.ensures).0) w
+
+pub returns-in_err-end-clause-faults : goal.returns-in_err-end-clause-faults
+returns-in_err-end-clause-faults c =
+    let p = err_from_is_err_and c.from_residual-in_err-end.result c.from_residual-in_err-end.ensures.1 in
+    rw (p.1, p.2) (inside c.args.page.now c.in_err-end.field-0.0 (c.in_err-end.ensures).bounds)
+
+pub returns-in_err-size-clause-faults : goal.returns-in_err-size-clause-faults
+returns-in_err-size-clause-faults c =
+    let p = err_from_is_err_and c.from_residual-in_err-size.result c.from_residual-in_err-size.ensures.1 in
+    let w : (at : ℕ) × (at ≤ length c.args.page.now) × (Damaged c.loop-turn.at ≡ Damaged at) = (c.loop-turn.at, c.loop-turn.invariant.1, refl) in
+    rw (p.1, p.2, (c.in_err-size.ensures).0) w
