@@ -33,6 +33,8 @@ impl<'a> KeyReader<'a> {
     }
 
     // The next column, with a text's bytes at the front of the lent ones, and what is left behind it; or where it stops.
+    // The hint here and at `walk` spares the copies of a value that only its length is wanted of.
+    #[inline(always)]
     fn column(
         self,
         direction: Direction,
@@ -48,6 +50,7 @@ impl<'a> KeyReader<'a> {
     }
 
     // What is left behind the next columns, or where they stop.
+    #[inline(always)]
     fn walk(self, directions: &[Direction]) -> Result<KeyReader<'a>, Stop>
         ensures { Walked directions.now self.entry result }
     {

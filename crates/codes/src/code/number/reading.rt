@@ -97,14 +97,19 @@ fn is_mark(i: usize, b: u8) -> bool
 fn read_mantissa(source: Source) -> Result<Digits, Stop>
     ensures { DigitsRead mantissa (seen source.entry) result }
 {
-    let mut list = Inline::new();
+    // An array and not a list that grows: a list's count would be kept in memory, and be written and read again for each digit.
+    let mut items = [0u8; 16];
     for (i, byte) in source.bytes.iter().enumerate() {
         let b = see(source.flipped, *byte);
         if !is_mark(i, b) {
             return Err(Stop { at: i });
         }
-        list.push(b / 2).unwrap();
+        items[i] = b / 2;
         if b % 2 == 0 {
+            let list = Inline {
+                items,
+                count: i + 1,
+            };
             return Ok(Digits { list });
         }
     }

@@ -1,8 +1,7 @@
-use Rattle.std.proofs.Common.{◌≡◌, ◌<◌, length}
-use Rattle.inline.specs.Listed.{listed}
+use Rattle.std.proofs.Common.{◌≡◌, ◌<◌, length, take}
 use Rattle.codes.specs.Sources.{seen}
 use Rattle.codes.proofs.Mantissas.{Onward}
 use Rattle.codes.proofs.code.number.reading.read_mantissa.Given as goal
 
 abbrev pub invariant-loop-i : goal.invariant-loop-i
-invariant-loop-i l = (l.i < 16) × (length (listed l.list) ≡ l.i) × Onward (seen l.source) l.i (listed l.list)
+invariant-loop-i l = (l.i < 16) × (length l.items ≡ 16) × Onward (seen l.source) l.i (take l.i l.items)
