@@ -6,6 +6,7 @@ use Rattle.std.specs.Ordering.{MatchOrdering, nat_cmp, ordering_then}
 use Rattle.codes.specs.Strings.{Less}
 use Rattle.codes.specs.Values.{Datum}
 use Rattle.keys.specs.declared.direction.Direction.{Direction}
+use Rattle.keys.specs.Ordering.{ByKeys}
 use Rattle.keys.specs.Reading.{IsKey}
 use Rattle.keys.specs.Records.{key, KeyOrder, Precedes, Equals}
 use Rattle.keys.proofs.Rows.{key_order}
@@ -31,12 +32,15 @@ says (x ∷ xs) [] o h = rw h tt
 says (x ∷ xs) (y ∷ ys) o h = first x y xs ys o (nat_cmp x y) (ranks x y) h (says xs ys o)
 
 -- from the bytes to the records
-pub told : (a b : List ℕ) (o : Ordering) (cs : List Direction) (r s : List Datum) → IsKey cs a r → IsKey cs b s → o ≡ slice_cmp nat_cmp a b →
-    MatchOrdering o (Precedes cs r s) (Equals r s) (Precedes cs s r)
+pub said : (a b : List ℕ) (o : Ordering) → Says a b o → ByKeys o a b
 unfolding KeyOrder
-told a b o cs r s p q e = at o (subst (λ (z : List ℕ). Says z (key cs s) o) (sym p.1) (subst (λ (z : List ℕ). Says a z o) (sym q.1) (says a b o e)))
+said a b o h cs r s p q = at o (subst (λ (z : List ℕ). Says z (key cs s) o) (sym p.1) (subst (λ (z : List ℕ). Says a z o) (sym q.1) h))
   where
     at : (o : Ordering) → Says (key cs r) (key cs s) o → MatchOrdering o (Precedes cs r s) (Equals r s) (Precedes cs s r)
     at Lower h = (key_order cs r s p.0 q.0).1 h
     at Equal h = (key_order cs r s p.0 q.0).3 h
     at Greater h = (key_order cs s r q.0 p.0).1 h
+
+pub told : (a b : List ℕ) (o : Ordering) (cs : List Direction) (r s : List Datum) → IsKey cs a r → IsKey cs b s → o ≡ slice_cmp nat_cmp a b →
+    MatchOrdering o (Precedes cs r s) (Equals r s) (Precedes cs s r)
+told a b o cs r s p q e = said a b o (says a b o e) cs r s p q
