@@ -1,7 +1,7 @@
 -- A record's columns, measured and written one by one.
-use Rattle.std.proofs.Common.{◌≡◌, ℕ, zero, suc, ◌+◌, ◌-◌, ◌<◌, ◌≤◌, cond, List, [], ◌∷◌, ◌++◌, length, get_or, take, drop, Some, None, Option, IsSome, sym, refl, ap, ◌∙◌, append_assoc, append-nil, add-one, arith, length-append, length-drop, drop-cons}
+use Rattle.std.proofs.Common.{◌≡◌, ℕ, suc, ◌+◌, ◌-◌, ◌<◌, ◌≤◌, cond, List, [], ◌∷◌, ◌++◌, length, get_or, take, drop, Some, None, Option, IsSome, sym, refl, ap, ◌∙◌, append_assoc, append-nil, add-one, arith, length-append, length-drop, drop-cons}
 use borrow.Rule.Slice.PartMut.{put_mid}
-use Rattle.std.proofs.lemmas.List.{take_more, take_at, take_all, drop_at, length-take-le, drop-drop, drop_all, get_or-map, length-map}
+use Rattle.std.proofs.lemmas.List.{take_more, take_at, take_all, drop_at, take-append-drop, length-take, length-take-le, drop-drop, drop_all, get_or-map, length-map}
 use Rattle.std.proofs.lemmas.List.Sums.{sum_by-cons}
 use Rattle.keys.specs.declared.direction.Direction.{Direction}
 use Rattle.keys.specs.declared.direction.Direction.TheVariants.{Ascending, Descending}
@@ -50,14 +50,10 @@ key_append (a ∷ fs) cs (d ∷ r) s h =
 -- the columns before i, and those from i on
 pub key_split : (cs : List Direction) (r : List Datum) (i : ℕ) → length r ≡ length cs →
     key cs r ≡ key (take i cs) (take i r) ++ key (drop i cs) (drop i r)
-key_split [] [] zero k = refl
-key_split [] [] (suc i) k = refl
-key_split [] (d ∷ r) i k = absurd (omega arith)
-key_split (c ∷ cs) [] i k = absurd (omega arith)
-key_split (c ∷ cs) (d ∷ r) zero k = refl
-key_split (c ∷ cs) (d ∷ r) (suc i) k =
-    ap (λ z. code_in c d ++ z) (key_split cs r i (omega arith))
-    ∙ sym (append_assoc (code_in c d) (key (take i cs) (take i r)) (key (drop i cs) (drop i r)))
+key_split cs r i k =
+    let long : length (take i r) ≡ length (take i cs) = omega (arith, length-take i cs, length-take i r) in
+    let e = key_append (take i cs) (drop i cs) (take i r) (drop i r) long in
+    rw (take-append-drop i cs, take-append-drop i r) at e
 
 -- the column that is written next, and the room that it has
 module _ (cs : List Direction) (r : List Datum) (i : ℕ) (c : Direction) (d : Datum) (h : i < length cs) (k : length r ≡ length cs) (e : c ≡ get_or cs i Ascending) (f : get_or r i null ≡ d) where

@@ -33,7 +33,7 @@ impl<'a> KeyReader<'a> {
     }
 
     // The next column, with a text's bytes at the front of the lent ones, and what is left behind it; or where it stops.
-    // The hint here and at `walk` spares the copies of a value that only its length is wanted of.
+    // The hints here and at `walk` spare copying each value where only its length is wanted.
     #[inline(always)]
     fn column(
         self,

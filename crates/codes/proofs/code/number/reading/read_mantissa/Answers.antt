@@ -1,4 +1,4 @@
-use Rattle.std.proofs.Common.{◌≡◌, ℕ, ◌+◌, ◌*◌, ◌/◌, ◌≤◌, [], ◌∷◌, take, length, ◌∙◌, subst, arith, length-append, length-set, length-take-le}
+use Rattle.std.proofs.Common.{◌≡◌, ℕ, ◌+◌, ◌*◌, ◌/◌, ◌<◌, ◌≤◌, List, [], ◌∷◌, ◌++◌, take, set, length, ◌∙◌, subst, arith, length-append, length-set, length-take-le}
 use Rattle.std.proofs.lemmas.Bool.{both_ways}
 use Rattle.std.proofs.lemmas.List.{take_more_set}
 use Rattle.codes.specs.Codes.{mantissa}
@@ -8,6 +8,10 @@ use Rattle.codes.specs.Sources.{seen}
 use Rattle.codes.proofs.Mantissas.{onward_more, onward_last, onward_stop, here, past}
 use Rattle.codes.proofs.Seens.{length_seen, seen_at}
 use Rattle.codes.proofs.code.number.reading.read_mantissa.Goals as goal
+
+-- the digits so far, with one more
+filled : (items : List ℕ) (i d : ℕ) → i < 16 → length items ≡ 16 → take (i + 1) (set items i d) ≡ take i items ++ (d ∷ [])
+filled items i d h e = take_more_set items i d (omega arith)
 
 pub returns-then-not-is_mark : goal.returns-then-not-is_mark
 returns-then-not-is_mark c =
@@ -24,7 +28,7 @@ invariant_of-result c =
     let at = seen_at c.args.source.flipped c.args.source.bytes.now i x c.loop-i-test.true c.see-b.ensures in
     let m = c.is_mark.ensures.0 c.if-not-is_mark.false in
     let t = onward_last (seen c.args.source) i (take i c.loop-i.items) (x / 2) c.loop-i.invariant.2 at.0 (omega (arith, at.1)) c.loop-i.invariant.0 (omega (arith, m.0)) (omega (arith, m.1)) in
-    rw (take_more_set c.loop-i.items i (x / 2) (omega (arith, c.loop-i.invariant.0, c.loop-i.invariant.1))) (record { row = t.0.0; trim = t.0.1 })
+    rw (filled c.loop-i.items i (x / 2) c.loop-i.invariant.0 c.loop-i.invariant.1) (record { row = t.0.0; trim = t.0.1 })
 
 pub returns-then-b-eq0 : goal.returns-then-b-eq0
 returns-then-b-eq0 c =
@@ -35,7 +39,7 @@ returns-then-b-eq0 c =
     let t = onward_last (seen c.args.source) i (take i c.loop-i.items) (x / 2) c.loop-i.invariant.2 at.0 (omega (arith, at.1)) c.loop-i.invariant.0 (omega (arith, m.0)) (omega (arith, m.1)) in
     let front = length-take-le i c.loop-i.items (omega (arith, c.loop-i.invariant.0, c.loop-i.invariant.1)) in
     let l = length-append (take i c.loop-i.items) (x / 2 ∷ []) in
-    rw (take_more_set c.loop-i.items i (x / 2) (omega (arith, c.loop-i.invariant.0, c.loop-i.invariant.1))) (t.0, omega (arith, front, l, t.1), t.2)
+    rw (filled c.loop-i.items i (x / 2) c.loop-i.invariant.0 c.loop-i.invariant.1) (t.0, omega (arith, front, l, t.1), t.2)
 
 pub loop-i-preserved : goal.loop-i-preserved
 loop-i-preserved c =
@@ -47,7 +51,7 @@ loop-i-preserved c =
     let odd = c.if-b-eq0.false in
     let p : x ≡ 2 * (x / 2) + 1 = omega arith in
     let last : i ≡ 15 → ⊥ = λ z. odd (m.3 z) in
-    rw (take_more_set c.loop-i.items i (x / 2) (omega (arith, c.loop-i.invariant.0, c.loop-i.invariant.1))) (
+    rw (filled c.loop-i.items i (x / 2) c.loop-i.invariant.0 c.loop-i.invariant.1) (
       omega (arith, c.loop-i.invariant.0),
       simp length-set c.loop-i.invariant.1,
       onward_more b i (take i c.loop-i.items) (x / 2) c.loop-i.invariant.2 at.0 (at.1 ∙ p) (omega (arith, m.0)) (λ z. let q = m.2 z in omega arith),
